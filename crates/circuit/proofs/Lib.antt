@@ -1,0 +1,6 @@
+-- Laws that belong to no one function.
+pub mod Numbers
+pub mod Kinded
+pub mod Heads
+pub mod Gated
+pub mod Accepted

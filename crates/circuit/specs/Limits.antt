@@ -1,0 +1,48 @@
+-- The limits of a circuit: what an accepted file's circuit keeps, and what a circuit must keep to have a file.
+use Prim.Native.Nat.{ℕ, suc, _≤_}
+use mathlib.Core.Path.{_≡_}
+use mathlib.Core.Bool.{Bool, true, _&&_}
+use mathlib.Core.List.{List, [], _∷_, map}
+use lib.ListN.{length}
+use lib.Dec.{ltb}
+use Rattle.lists.specs.Ladder.{between}
+use Rattle.lists.specs.Tables.{every}
+use Rattle.method.specs.Kinds.{takes}
+use Rattle.method.specs.Circuit.{Gate, Circuit}
+
+abbrev pub mostInputs : ℕ
+mostInputs = 32
+
+abbrev pub mostGates : ℕ
+mostGates = 128
+
+-- of either delay
+abbrev pub mostDelay : ℕ
+mostDelay = 63
+
+-- d is from 1 to 63, and di from 0 to 63
+unfoldable pub delaysSuit : ℕ → ℕ → Bool
+delaysSuit d di = between 1 mostDelay d && between 0 mostDelay di
+
+-- every fan-in number is below the gate's own net number
+unfoldable pub allBelow : ℕ → List ℕ → Bool
+allBelow net fanins = every (map (λ (n : ℕ). ltb n net) fanins)
+
+-- a gate that drives this net
+pub record GateWithin (net : ℕ) (g : Gate) : Type 0 where
+  pub delay-least : 1 ≤ g .delay
+  pub delay-most : g .delay ≤ mostDelay
+  pub inertial-most : g .inertial ≤ mostDelay
+  pub entries : takes (g .kind) (length (g .fanins)) ≡ true
+  pub below : allBelow net (g .fanins) ≡ true
+
+-- gates that drive the nets from this one on
+abbrev pub GatesWithin : ℕ → List Gate → Type 0
+GatesWithin net [] = Unit {0}
+GatesWithin net (g ∷ gs) = GateWithin net g × GatesWithin (suc net) gs
+
+pub record Within (c : Circuit) : Type 0 where
+  pub inputs-least : 1 ≤ c .inputs
+  pub inputs-most : c .inputs ≤ mostInputs
+  pub gates-most : length (c .gates) ≤ mostGates
+  pub gates-within : GatesWithin (c .inputs) (c .gates)

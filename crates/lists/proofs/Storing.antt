@@ -1,0 +1,36 @@
+-- A loop that stores a row into an area, one number a turn: after k turns the numbers from k on are still to be stored.
+-- Assumes nothing.
+use Prim.Native.Nat.{ℕ, zero, suc, _≤_, _<_, _+_}
+use mathlib.Core.Path.{_≡_, refl, sym, _∙_, ap}
+use mathlib.Core.List.{List, [], _∷_}
+use native.Mathlib.Omega.{arith}
+use native.Mathlib.Nat.{add-zero, add-suc}
+use native.Mathlib.Numerals.{add-one}
+use lib.ListN.{length, getD, drop, set, drop-of-length-le}
+use lib.Seq.{sets, set-out, drop-cons}
+
+-- past the end of the area nothing is stored
+pub sets-out : (area : List ℕ) (i : ℕ) (row : List ℕ) → length area ≤ i → sets area i row ≡ area
+sets-out area i [] h = refl
+sets-out area i (v ∷ row) h = rw (set-out area i v h) (sets-out area (suc i) row (omega arith))
+
+-- what is left to store after k turns, with the area as it is then
+pub record Left (area₀ : List ℕ) (at : ℕ) (row area : List ℕ) (k : ℕ) : Type 0 where
+  pub same : length area ≡ length area₀
+  pub is : sets area₀ at row ≡ sets area (at + k) (drop k row)
+
+pub none : (area : List ℕ) (at : ℕ) (row : List ℕ) → Left area at row area 0
+none area at row = record { same = refl; is = rw add-zero }
+
+pub more : {area₀ row area : List ℕ} {at k : ℕ} → Left area₀ at row area k → k < length row → Left area₀ at row (set area (at + k) (getD row k 0)) (k + 1)
+more {area₀} {row} {area} {at} {k} f h =
+    record {
+      same = lib.ListN.length-set area (at + k) (getD row k 0) ∙ f .same;
+      is = f .is ∙ rw (drop-cons row k 0 h, add-one k, add-suc at k);
+    }
+
+pub all : {area₀ row area : List ℕ} {at k : ℕ} → Left area₀ at row area k → length row ≤ k → area ≡ sets area₀ at row
+all {area₀} {row} {area} {at} {k} f h = sym (f .is ∙ rw (drop-of-length-le row h))
+
+pub full : {area₀ row area : List ℕ} {at k : ℕ} → Left area₀ at row area k → length area ≤ at + k → area ≡ sets area₀ at row
+full {area₀} {row} {area} {at} {k} f h = sym (f .is ∙ sets-out area (at + k) (drop k row) h)

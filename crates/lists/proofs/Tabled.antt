@@ -1,0 +1,71 @@
+-- Lists made place by place: their length and entries, the step and the end of a loop over the places, and tests over all of them.
+-- Assumes nothing.
+use Prim.Native.Nat.{ℕ, zero, suc, _+_, _-_, _≤_, _<_}
+use mathlib.Core.Path.{_≡_, refl, sym, ap, ap₂, _∙_}
+use mathlib.Core.Logic.{_⊎_, inl, inr}
+use mathlib.Core.Bool.{Bool, true, false, _&&_}
+use mathlib.Core.List.{List, [], _∷_, _++_, map}
+use native.Mathlib.Omega.{arith}
+use native.Mathlib.Nat.{add-zero, add-suc, suc-add}
+use native.Mathlib.Numerals.{add-one}
+use lib.ListN.{length, getD}
+use Rattle.lists.specs.Tables.{tabulateFrom, tabulate, every}
+use Rattle.lists.proofs.Choices.{order, and-left, and-right, and-both}
+
+pub one-less : (n j : ℕ) → j < n → n - j ≡ suc (n - (j + 1))
+one-less n j l = let e : n - j ≡ (n - (j + 1)) + 1 = omega arith in e ∙ add-one (n - (j + 1))
+
+module _ {A : Type 0} where
+  pub from-length : (n j : ℕ) (f : ℕ → A) → length (tabulateFrom n j f) ≡ n
+  unfolding tabulateFrom
+  from-length zero j f = refl
+  from-length (suc n) j f = ap suc (from-length n (suc j) f)
+
+  pub from-at : (n j : ℕ) (f : ℕ → A) (d : A) (k : ℕ) → k < n → getD (tabulateFrom n j f) k d ≡ f (j + k)
+  unfolding tabulateFrom
+  from-at zero j f d k h = absurd (omega arith)
+  from-at (suc n) j f d zero h = ap f (sym (add-zero j))
+  from-at (suc n) j f d (suc k) h = from-at n (suc j) f d k (omega arith) ∙ ap f (let q : suc j + k ≡ j + suc k = omega arith in q)
+
+  pub tabulate-at : (n : ℕ) (f : ℕ → A) (d : A) (k : ℕ) → k < n → getD (tabulate n f) k d ≡ f k
+  tabulate-at n f d k h = from-at n 0 f d k h ∙ ap f (let q : 0 + k ≡ k = omega arith in q)
+
+  -- one place more, and the last place: what a loop with j rising to n does
+  pub from-step : (n j : ℕ) (f : ℕ → A) → j < n → tabulateFrom (n - j) j f ≡ f j ∷ tabulateFrom (n - (j + 1)) (j + 1) f
+  unfolding tabulateFrom
+  from-step n j f h = rw (one-less n j h, add-one j)
+
+  pub from-end : (n j : ℕ) (f : ℕ → A) → n ≤ j → tabulateFrom (n - j) j f ≡ []
+  unfolding tabulateFrom
+  from-end n j f h = let e : n - j ≡ 0 = omega arith in rw e
+
+  -- the same values give the same list
+  pub from-ext : (n j : ℕ) (f g : ℕ → A) → ((k : ℕ) → j ≤ k → k < j + n → f k ≡ g k) → tabulateFrom n j f ≡ tabulateFrom n j g
+  unfolding tabulateFrom
+  from-ext zero j f g h = refl
+  from-ext (suc n) j f g h = ap₂ _∷_ (h j (omega arith) (omega arith)) (from-ext n (suc j) f g (λ k a b. h k (omega arith) (omega arith)))
+
+  pub from-snoc : (n j : ℕ) (f : ℕ → A) → tabulateFrom (suc n) j f ≡ tabulateFrom n j f ++ (f (j + n) ∷ [])
+  unfolding tabulateFrom
+  from-snoc zero j f = ap (λ (x : A). x ∷ []) (ap f (sym (add-zero j)))
+  from-snoc (suc n) j f = ap (λ (l : List A). f j ∷ l) (from-snoc n (suc j) f ∙ ap (λ (m : ℕ). tabulateFrom n (suc j) f ++ (f m ∷ [])) (let q : suc j + n ≡ j + suc n = omega arith in q))
+
+  pub tabulate-snoc : (n : ℕ) (f : ℕ → A) → tabulate (suc n) f ≡ tabulate n f ++ (f n ∷ [])
+  tabulate-snoc n f = from-snoc n 0 f ∙ ap (λ (m : ℕ). tabulate n f ++ (f m ∷ [])) (let q : 0 + n ≡ n = omega arith in q)
+
+-- a test that every place of a table passes
+module _ {A : Type 0} (p : A → Bool) (f : ℕ → A) where
+  pub every-from : (n j : ℕ) → every (map p (tabulateFrom n j f)) ≡ true → (k : ℕ) → j ≤ k → k < j + n → p (f k) ≡ true
+  unfolding tabulateFrom
+  every-from zero j e k a b = absurd (omega arith)
+  every-from (suc n) j e k a b =
+      elim (order k j) [
+        | inl h ↦ rw (let q : k ≡ j = omega arith in q) (and-left (p (f j)) (every (map p (tabulateFrom n (suc j) f))) e)
+        | inr h ↦ every-from n (suc j) (and-right (p (f j)) (every (map p (tabulateFrom n (suc j) f))) e) k h (omega arith)
+      ]
+
+  pub from-every : (n j : ℕ) → ((k : ℕ) → j ≤ k → k < j + n → p (f k) ≡ true) → every (map p (tabulateFrom n j f)) ≡ true
+  unfolding tabulateFrom
+  from-every zero j h = refl
+  from-every (suc n) j h =
+      and-both (p (f j)) (every (map p (tabulateFrom n (suc j) f))) (h j (omega arith) (omega arith)) (from-every n (suc j) (λ k a b. h k (omega arith) (omega arith)))

@@ -1,0 +1,5 @@
+-- What every crate's definitions use of lists: questions in order, areas, tables of values, one entry added after the other.
+pub mod Ladder
+pub mod Areas
+pub mod Tables
+pub mod Grow

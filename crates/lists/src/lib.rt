@@ -1,0 +1,55 @@
+// Clearing and storing in a lent area, and a test that many questions ask. The crate's definitions and laws on
+// lists serve every other crate.
+ghost use mathlib.Core.Path.{_≡_};
+ghost use lib.Seq.{sets};
+ghost use Rattle.lists.specs.Areas.{cleared};
+ghost use Rattle.lists.specs.Ladder.{between};
+
+// Sets every number of the area to 0.
+pub fn clear(area: &mut [u16])
+    ensures { λ _. ⌜ now (area .exit) ≡ cleared (now (area .entry)) ⌝ }
+{
+    let mut i = 0;
+    while i < area.len() {
+        area[i] = 0;
+        i += 1;
+    }
+}
+
+// Sets every word to 0.
+pub fn clear_words(words: &mut [u64])
+    ensures { λ _. ⌜ now (words .exit) ≡ cleared (now (words .entry)) ⌝ }
+{
+    let mut i = 0;
+    while i < words.len() {
+        words[i] = 0;
+        i += 1;
+    }
+}
+
+// Stores the row into the area from `at` on, as far as the area reaches.
+pub fn store(area: &mut [u16], at: usize, row: &[u16])
+    ensures { λ _. ⌜ now (area .exit) ≡ sets (now (area .entry)) at (now (row .entry)) ⌝ }
+{
+    if area.len() <= at {
+        return;
+    }
+    let mut k = 0;
+    while k < row.len() {
+        if area.len() - at <= k {
+            return;
+        }
+        area[at + k] = row[k];
+        k += 1;
+    }
+}
+
+// Whether n is from least to most.
+pub fn is_between(least: u16, most: u16, n: u16) -> bool
+    ensures { λ r. ⌜ r ≡ between least most n ⌝ }
+{
+    if n < least {
+        return false;
+    }
+    n <= most
+}

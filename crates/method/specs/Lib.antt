@@ -1,0 +1,3 @@
+-- What a circuit is and what its gates compute.
+pub mod Kinds
+pub mod Circuit
