@@ -8,11 +8,11 @@ use mathlib.Core.Bool.{Bool, true, false, _&&_}
 use native.Mathlib.Omega.{arith}
 use lib.ListN.{length}
 use lib.Dec.{leb}
-use borrow.Author.Tests.{leb-true}
+use borrow.Author.Tests.{leb-true, le-leb}
 use Rattle.lists.specs.Ladder.{firstNo, accepted}
 use Rattle.lists.specs.Tables.{tabulateFrom, tabulate}
-use Rattle.lists.proofs.Choices.{order, between-least-true, between-most-true}
-use Rattle.lists.proofs.Ladders.{asked, accepted-none, firstNo-append, first-none}
+use Rattle.lists.proofs.Choices.{order, between-yes, between-least-true, between-most-true}
+use Rattle.lists.proofs.Ladders.{asked, all-asked, ask-yes, accepted-none, unless-none, firstNo-append, first-none}
 use Rattle.circuit.specs.File.{inputsOf, gatesOf, headLength, lengthOf, kindByte, delayOf, inertialOf, entriesOf, faninsOf, kindOf}
 use Rattle.circuit.specs.Limits.{mostInputs, mostGates, delaysSuit, allBelow}
 use Rattle.circuit.specs.Questions.{fills, lengthSuits, headQuestions, gateQuestions, questions, Size, sizeOf, readOf}
@@ -86,3 +86,34 @@ passed file s e =
       gate = λ j h. gates-passed file (gatesOf file) 0 (q .1) j (omega arith) (omega arith);
       size = a .1;
     }
+
+-- ---- and the other way round: a file of which all this holds is accepted
+
+head-asked : (file : List ℕ) → Head file → firstNo (headQuestions file) ≡ 0
+unfolding headQuestions
+head-asked file h =
+    ask-yes _ _ _ (le-leb _ _ (h .long))
+    ∙ ask-yes _ _ _ (between-yes _ _ _ (h .inputs-least) (h .inputs-most))
+    ∙ ask-yes _ _ _ (between-yes _ _ _ (omega arith) (h .gates-most))
+    ∙ ask-yes _ _ _ (le-leb _ _ (h .room))
+    ∙ ask-yes _ _ _ (h .filled)
+    ∙ all-asked
+
+gate-asked : (file : List ℕ) (j : ℕ) → GatePassed file j → firstNo (gateQuestions file j) ≡ 0
+unfolding gateQuestions
+gate-asked file j g =
+    ask-yes _ _ _ (le-leb _ _ (g .kind-most)) ∙ ask-yes _ _ _ (g .delays) ∙ ask-yes _ _ _ (g .suits) ∙ ask-yes _ _ _ (g .below) ∙ all-asked
+
+gates-asked : (file : List ℕ) (n j : ℕ) → ((k : ℕ) → j ≤ k → k < j + n → GatePassed file k) → firstNo (flatten (tabulateFrom n j (gateQuestions file))) ≡ 0
+unfolding tabulateFrom flatten
+gates-asked file zero j h = all-asked
+gates-asked file (suc n) j h =
+    firstNo-append (gateQuestions file j) (flatten (tabulateFrom n (suc j) (gateQuestions file))) (gate-numbered file j)
+    ∙ rw (gate-asked file j (h j (omega arith) (omega arith))) (gates-asked file n (suc j) (λ k a b. h k (omega arith) (omega arith)))
+
+pub passed-read : (file : List ℕ) → Head file → ((k : ℕ) → k < gatesOf file → GatePassed file k) → readOf file ≡ accepted (sizeOf file)
+unfolding readOf questions
+passed-read file h g =
+    unless-none (firstNo (questions file)) (sizeOf file)
+    (firstNo-append (headQuestions file) (flatten (tabulate (gatesOf file) (gateQuestions file))) (head-numbered file)
+    ∙ rw (head-asked file h) (gates-asked file (gatesOf file) 0 (λ k a b. g k (omega arith))))

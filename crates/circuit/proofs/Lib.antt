@@ -4,3 +4,7 @@ pub mod Kinded
 pub mod Heads
 pub mod Gated
 pub mod Accepted
+pub mod Written
+pub mod Encoded
+pub mod Faithful
+pub mod Parts

@@ -1,0 +1,2 @@
+-- Laws on the data of a circuit.
+pub mod Taking
