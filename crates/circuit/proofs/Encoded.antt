@@ -1,15 +1,15 @@
 -- The file of a circuit within the limits: it is a file of bytes, its parts stand where the reader looks for them, and every
 -- question is answered yes.
 -- Assumes nothing.
-use Prim.Native.Nat.{ℕ, zero, suc, _+_, _-_, _*_, _/_, _%_, _<_, _≤_}
-use mathlib.Core.Path.{_≡_, refl, sym, _∙_, ap}
-use mathlib.Core.Logic.{_⊎_, inl, inr}
+use Prim.Native.Nat.{ℕ, zero, suc, _+_, _-_, _*_, _/_, _<_, _≤_}
+use mathlib.Core.Path.{_≡_, refl}
+use mathlib.Core.Logic.{inl, inr}
 use mathlib.Core.List.{List, [], _∷_, _++_, map, flatMap}
-use mathlib.Core.Bool.{Bool, true, _&&_}
+use mathlib.Core.Bool.{true}
 use native.Mathlib.Omega.{arith}
 use native.Mathlib.Nat.{add-suc, add-zero}
-use lib.ListN.{length, getD, length-append}
-use lib.Dec.{eqb, leb, ltb}
+use lib.ListN.{length, length-append}
+use lib.Dec.{ltb}
 use borrow.Author.Tests.{eq-eqb, le-leb, ltb-true}
 use Rattle.lists.specs.Ladder.{between}
 use Rattle.lists.specs.Tables.{every}
@@ -20,8 +20,8 @@ use Rattle.method.specs.declared.Kind.the-variants.{Buf, Not, And, Nand, Or, No
 use Rattle.method.specs.Kinds.{mostFanins}
 use Rattle.method.specs.Circuit.{Gate, Circuit}
 use Rattle.method.proofs.Taking.{takes-range}
-use Rattle.circuit.specs.File.{inputsOf, gatesOf, headLength, offsetOf, lengthOf, recordLength, kindByte, entriesOf, kindOf}
-use Rattle.circuit.specs.Limits.{mostInputs, mostGates, mostDelay, delaysSuit, allBelow, GateWithin, GatesWithin, Within}
+use Rattle.circuit.specs.File.{inputsOf, gatesOf, headLength, lengthOf, recordLength}
+use Rattle.circuit.specs.Limits.{mostDelay, delaysSuit, allBelow, GateWithin, GatesWithin, Within}
 use Rattle.circuit.specs.Questions.{fills, lengthSuits}
 use Rattle.circuit.specs.Encode.{twoBytes, kindNumber, encodeGate, encodePairs, encode}
 use Rattle.circuit.specs.Faithful.{Bytes}

@@ -1,21 +1,19 @@
 -- Questions 6 to 9: of one gate, and gate by gate.
 -- Assumes nothing.
-use Prim.Native.Nat.{ℕ, zero, suc, _+_, _-_, _*_, _/_, _<_, _≤_}
-use mathlib.Core.Path.{_≡_, refl, sym, _∙_, ap}
-use mathlib.Core.List.{List, [], _∷_, _++_, map, flatten}
-use mathlib.Core.Bool.{Bool, true, false, not, _&&_}
+use Prim.Native.Nat.{ℕ, _+_, _-_, _/_, _<_, _≤_}
+use mathlib.Core.Path.{_≡_, sym, _∙_}
+use mathlib.Core.List.{List, flatten}
+use mathlib.Core.Bool.{Bool, true, false, not}
 use native.Mathlib.Omega.{arith}
-use lib.ListN.{length, getD}
-use lib.Dec.{eqb, leb, ltb}
 use borrow.Author.Tests.{eq-eqb, ne-eqb, le-leb, lt-leb, lt-ltb, le-ltb, not-true, not-false}
-use Rattle.lists.specs.Ladder.{Question, _orElse_, firstNo, between, Answer, accepted, refused, unless}
-use Rattle.lists.specs.Tables.{tabulateFrom, tabulate, every}
+use Rattle.lists.specs.Ladder.{firstNo, between, accepted, refused}
+use Rattle.lists.specs.Tables.{tabulateFrom, tabulate}
 use Rattle.lists.proofs.Ladders.{ask-yes, ask-no, all-asked, firstNo-append, first, first-here, unless-none, unless-some, Numbered}
 use Rattle.lists.proofs.Tabled.{from-step, from-end}
 use Rattle.method.specs.Kinds.{takes}
 use Rattle.method.specs.declared.Kind.{Kind}
 use Rattle.circuit.specs.declared.GateRecord.{GateRecord}
-use Rattle.circuit.specs.File.{byteAt, numberAt, offsetOf, inputsOf, gatesOf, lengthOf, recordLength, kindByte, delayOf, inertialOf, listOf, entriesOf, faninAt, faninsOf, kindOf, gateOf, recordOf}
+use Rattle.circuit.specs.File.{byteAt, offsetOf, inputsOf, gatesOf, lengthOf, recordLength, kindByte, delayOf, inertialOf, entriesOf, faninAt, faninsOf, kindOf, recordOf}
 use Rattle.circuit.specs.Limits.{mostDelay, delaysSuit, allBelow}
 use Rattle.circuit.specs.Questions.{lengthSuits, headQuestions, gateQuestions, questions, sizeOf, readOf}
 

@@ -1,5 +1,5 @@
 -- The reader's questions 1 to 9 in their order, and what it answers.
-use Prim.Native.Nat.{ℕ, zero, suc, _+_, _*_}
+use Prim.Native.Nat.{ℕ, zero, suc, _+_}
 use mathlib.Core.Bool.{Bool, _&&_}
 use mathlib.Core.List.{List, [], _∷_, _++_, flatten}
 use lib.ListN.{length}
@@ -8,19 +8,23 @@ use Rattle.lists.specs.Ladder.{Question, _orElse_, between, Answer, accepted, r
 use Rattle.lists.specs.Tables.{tabulate}
 use Rattle.method.specs.declared.Kind.{Kind}
 use Rattle.method.specs.Kinds.{takes}
-use Rattle.circuit.specs.File.{inputsOf, gatesOf, headLength, offsetOf, lengthOf, recordLength, kindByte, delayOf, inertialOf, entriesOf, faninsOf, kindOf}
+use Rattle.circuit.specs.File.{inputsOf, gatesOf, headLength, offsetOf, lengthOf, recordHead, recordLength, kindByte, delayOf, inertialOf, entriesOf, faninsOf, kindOf}
 use Rattle.circuit.specs.Limits.{mostInputs, mostGates, delaysSuit, allBelow}
 use Rattle.circuit.specs.declared.Reading.{Reading}
 use Rattle.circuit.specs.declared.Reading.the-variants.{Accepted, Refused}
 
--- question 5, for the n pairs from pair j on: the first starts at `end`, each later one where the one before ended, each
--- length is 3 or more, and the last end is the file's length (for no pair: `end` is)
+-- question 5, for the n pairs from pair j on: does the first start at `end`, each later one where the one before ended, is
+-- each length 3 or more, and is the last end the file's length (for no pair: is `end`)? No sum wraps.
 unfoldable pub fills : List ℕ → ℕ → ℕ → ℕ → Bool
 fills file zero j end = eqb end (length file)
 fills file (suc n) j end =
-    eqb (offsetOf file j) end && (leb 3 (lengthOf file j) && fills file n (suc j) (offsetOf file j + lengthOf file j))
+    eqb (offsetOf file j) end && (leb recordHead (lengthOf file j) && fills file n (suc j) (offsetOf file j + lengthOf file j))
 
--- questions 1 to 5
+-- 1: Has the file 4 bytes or more?
+-- 2: Is I from 1 to 32?
+-- 3: Is G from 0 to 128?
+-- 4: Are there at least 4 + 4G bytes?
+-- 5: Do the pairs start at 4 + 4G, lie end to end, and fill the file?
 unfoldable pub headQuestions : List ℕ → List Question
 headQuestions file =
     (leb 4 (length file) orElse 1)
@@ -34,7 +38,11 @@ headQuestions file =
 unfoldable pub lengthSuits : ℕ → Kind → ℕ → Bool
 lengthSuits len kind entries = eqb len (recordLength entries) && takes kind entries
 
--- questions 6 to 9 of gate j, whose own net number is I + j
+-- of gate j, whose own net number is I + j:
+-- 6: Is the kind 0 to 7?
+-- 7: Is d from 1 to 63 and di from 0 to 63?
+-- 8: Is the length 3 + 2M for an M of that kind?
+-- 9: Is every fan-in number below the gate's own net number?
 unfoldable pub gateQuestions : List ℕ → ℕ → List Question
 gateQuestions file j =
     (leb (kindByte file j) 7 orElse 6)
@@ -43,7 +51,7 @@ gateQuestions file j =
     ∷ (allBelow (inputsOf file + j) (faninsOf file j) orElse 9)
     ∷ []
 
--- questions 1 to 9: the last four gate by gate
+-- the reader's questions in their order: 1 to 5, then 6 to 9 gate by gate
 unfoldable pub questions : List ℕ → List Question
 questions file = headQuestions file ++ flatten (tabulate (gatesOf file) (gateQuestions file))
 
@@ -55,11 +63,11 @@ pub record Size : Type 0 where
 unfoldable pub sizeOf : List ℕ → Size
 sizeOf file = record { inputs = inputsOf file; gates = gatesOf file }
 
--- what the reader answers
+-- what the reader answers: the number of the first "no", or I and G
 unfoldable pub readOf : List ℕ → Answer Size
 readOf file = answer (questions file) (sizeOf file)
 
--- a `Reading` on paper
+-- a `Reading` in the paper's terms: I and G, or the number alone
 unfoldable pub onPaper : Reading → Answer Size
 onPaper (Accepted i g) = accepted (record { inputs = i; gates = g })
 onPaper (Refused n) = refused n

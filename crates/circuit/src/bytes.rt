@@ -1,7 +1,7 @@
 // Bytes and two-byte numbers of a circuit file, for any place: past the end of the file they are 0.
 ghost use mathlib.Core.Path.{_≡_};
 ghost use Prim.Native.Nat.{_-_, _/_};
-ghost use Rattle.circuit.specs.File.{byteAt, numberAt, offsetOf, lengthOf, kindOf};
+ghost use Rattle.circuit.specs.File.{byteAt, numberAt, offsetOf, lengthOf, recordHead, kindOf};
 use method::Kind;
 
 pub fn byte_at(file: &[u8], at: usize) -> u8
@@ -38,7 +38,7 @@ pub fn length_of(file: &[u8], j: u16) -> u16
 
 // How many fan-in entries a record of this length has.
 pub fn entries_of(len: u16) -> u16
-    ensures { λ r. ⌜ r ≡ (len - 3) / 2 ⌝ }
+    ensures { λ r. ⌜ r ≡ (len - recordHead) / 2 ⌝ }
 {
     if len < 3 { 0 } else { (len - 3) / 2 }
 }

@@ -1,6 +1,6 @@
 // The circuit file: questions 1 to 9, and what the upper crates need of a gate's record.
 ghost use mathlib.Core.Path.{_≡_};
-ghost use Prim.Native.Nat.{_+_, _-_, _*_, _/_, _≤_};
+ghost use Prim.Native.Nat.{_+_, _*_, _≤_};
 ghost use Rattle.lists.specs.Ladder.{firstNo};
 ghost use Rattle.lists.specs.Tables.{tabulate};
 ghost use mathlib.Core.List.{flatten};
@@ -8,6 +8,7 @@ ghost use Rattle.method.specs.Kinds.{takes};
 ghost use Rattle.circuit.specs.File.{inputsOf, headLength, faninAt, kindOf, recordOf};
 ghost use Rattle.circuit.specs.Questions.{fills, headQuestions, gateQuestions, lengthSuits, readOf, onPaper};
 ghost use Rattle.circuit.specs.Limits.{mostInputs, mostGates, delaysSuit, allBelow};
+
 mod bytes;
 
 use bytes::byte_at;
@@ -20,8 +21,11 @@ use method::Kind;
 use method::Net;
 
 const MOST_INPUTS: u16 = 32;
+
 const MOST_GATES: u16 = 128;
+
 const MOST_DELAY: u16 = 63;
+
 const MOST_FANINS: u16 = 8;
 
 // What reading a circuit file answers: I and G, or the number of the first "no".

@@ -1,11 +1,11 @@
 -- Ladders of questions: joined ladders, and what an acceptance or a refusal says.
 -- Assumes nothing.
 use Prim.Native.Nat.{ℕ, zero, suc}
-use mathlib.Core.Path.{_≡_, refl, sym, ap, _∙_}
+use mathlib.Core.Path.{_≡_, refl, sym}
 use mathlib.Core.Bool.{Bool, true, false, cond}
 use mathlib.Core.List.{List, [], _∷_, _++_}
 use native.Mathlib.Omega.{arith}
-use Rattle.lists.specs.Ladder.{Question, _orElse_, firstNo, Answer, accepted, refused, unless}
+use Rattle.lists.specs.Ladder.{Question, _orElse_, firstNo, accepted, refused, unless}
 
 -- the first of two numbers that is not 0
 abbrev pub first : ℕ → ℕ → ℕ

@@ -20,10 +20,10 @@ pub fn clear(area: &mut [u16])
 pub fn clear_words(words: &mut [u64])
     ensures { λ _. ⌜ now (words .exit) ≡ cleared (now (words .entry)) ⌝ }
 {
-    let mut i = 0;
-    while i < words.len() {
-        words[i] = 0;
-        i += 1;
+    let mut w = 0;
+    while w < words.len() {
+        words[w] = 0;
+        w += 1;
     }
 }
 

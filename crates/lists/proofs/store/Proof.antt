@@ -1,8 +1,8 @@
 -- `lists::store` meets its contract: after k turns the numbers from k on are still to be stored, and past the area's end none is.
 -- Assumes nothing.
-use Prim.Native.Nat.{_-_, _≤_, _+_}
+use Prim.Native.Nat.{_-_}
 use mathlib.Core.Path.{sym}
-use lib.ListN.{length, length-set}
+use lib.ListN.{length}
 use native.Mathlib.Omega.{arith}
 use borrow.Author.Needs.{needs}
 use Rattle.lists.proofs.Storing.{Left, none, more, all, full, sets-out}

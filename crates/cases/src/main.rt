@@ -1,0 +1,74 @@
+// The test program. Standard input is a row of cases, each a length of four bytes, little-endian, and a circuit file of
+// that length. Standard output has a line a case: `accepted I G`, or `refused` and the number. It stops at the end of the
+// input, or at a case that is cut short or longer than 70,000 bytes, which prints `cut`.
+ghost use Prim.Native.Nat.{_<_};
+use circuit::Reading;
+use libc::STDIN_FILENO;
+use libc::STDOUT_FILENO;
+
+fn main() {
+    let mut turns: u32 = 0;
+    while turns < 1000000 {
+        if !next_case() {
+            return;
+        }
+        turns += 1;
+    }
+}
+
+// One case. False at the end of the input.
+fn next_case() -> bool {
+    let mut head = [0u8; 4];
+    let got = io::read_full(STDIN_FILENO, &mut head);
+    if got == 0 {
+        return false;
+    }
+    let mut body = [0u8; 70000];
+    if got < 4 {
+        return cut();
+    }
+    read_case(length_of(head), &mut body)
+}
+
+fn length_of(head: [u8; 4]) -> usize {
+    wide(head[0]) + 256 * wide(head[1]) + 65536 * wide(head[2]) + 16777216 * wide(head[3])
+}
+
+fn wide(x: u8) -> usize
+    ensures { λ r. ⌜ r < 256 ⌝ }
+{
+    x as usize
+}
+
+fn read_case(len: usize, body: &mut [u8]) -> bool {
+    if body.len() < len {
+        return cut();
+    }
+    show_case(&mut body[0..len])
+}
+
+// Fills the file from the input and prints its reading.
+fn show_case(file: &mut [u8]) -> bool {
+    if io::read_full(STDIN_FILENO, file) < file.len() {
+        return cut();
+    }
+    match circuit::read(file) {
+        Reading::Accepted { inputs, gates } => {
+            io::write_all(STDOUT_FILENO, b"accepted ");
+            io::print_decimal(STDOUT_FILENO, inputs as u64);
+            io::write_all(STDOUT_FILENO, b" ");
+            io::print_decimal(STDOUT_FILENO, gates as u64);
+        }
+        Reading::Refused(number) => {
+            io::write_all(STDOUT_FILENO, b"refused ");
+            io::print_decimal(STDOUT_FILENO, number as u64);
+        }
+    }
+    io::write_all(STDOUT_FILENO, b"\n");
+    true
+}
+
+fn cut() -> bool {
+    io::write_all(STDOUT_FILENO, b"cut\n");
+    false
+}
