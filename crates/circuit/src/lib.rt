@@ -94,10 +94,10 @@ fn head_fault(file: &[u8]) -> u8
         return 1;
     }
     let inputs = number_at(file, 0);
+    let gates = number_at(file, 2);
     if !lists::is_between(1, MOST_INPUTS, inputs) {
         return 2;
     }
-    let gates = number_at(file, 2);
     if !lists::is_between(0, MOST_GATES, gates) {
         return 3;
     }
