@@ -18,14 +18,13 @@ def record(kind, d, di, fanins):
     return bytes([kind, d, di]) + b"".join(two(f) for f in fanins)
 
 
-def file_of(inputs, records, gates=None, shift={}, lengths={}, tail=b""):
-    """The file of these records; gates, an offset or a length may be given another value than the true one."""
-    count = len(records) if gates is None else gates
+def file_of(inputs, records, shift={}, lengths={}, tail=b""):
+    """The file of these records; an offset or a length may be given another value than the true one."""
     at, pairs = 4 + 4 * len(records), b""
     for j, r in enumerate(records):
         pairs += two(at + shift.get(j, 0)) + two(lengths.get(j, len(r)))
         at += len(r)
-    return two(inputs) + two(count) + pairs + b"".join(records) + tail
+    return two(inputs) + two(len(records)) + pairs + b"".join(records) + tail
 
 
 def good(data, inputs, gates):
@@ -38,7 +37,6 @@ def bad(data, number):
 
 AND, XNOR, NOT = 2, 7, 1
 buf = record(0, 1, 0, [0])
-pair = record(AND, 63, 63, [0, 0])
 
 # questions 1 to 4
 for n in range(4):
@@ -136,6 +134,8 @@ for turn in range(60):
 with open("crates/cases/stdin", "wb") as f:
     for data, _ in cases:
         f.write(len(data).to_bytes(4, "little") + data)
+    f.write((70001).to_bytes(4, "little"))  # one case too long ends the run
 with open("crates/cases/stdout", "w") as f:
     f.writelines(line + "\n" for _, line in cases)
+    f.write("cut\n")
 print(len(cases), "cases")

@@ -1,6 +1,7 @@
 // The test program. Standard input is a row of cases, each a length of four bytes, little-endian, and a circuit file of
 // that length. Standard output has a line a case: `accepted I G`, or `refused` and the number. It stops at the end of the
-// input, or at a case that is cut short or longer than 70,000 bytes, which prints `cut`.
+// input; where it stops before that, at a case that is cut short or longer than 70,000 bytes or after a million cases, it
+// prints `cut`.
 ghost use Prim.Native.Nat.{_<_};
 use circuit::Reading;
 use libc::STDIN_FILENO;
@@ -14,6 +15,15 @@ fn main() {
         }
         turns += 1;
     }
+    end_of_turns();
+}
+
+// Says so where input is left.
+fn end_of_turns() {
+    let mut more = [0u8; 1];
+    if io::read_full(STDIN_FILENO, &mut more) != 0 {
+        cut();
+    }
 }
 
 // One case. False at the end of the input.
@@ -23,10 +33,10 @@ fn next_case() -> bool {
     if got == 0 {
         return false;
     }
-    let mut body = [0u8; 70000];
     if got < 4 {
         return cut();
     }
+    let mut body = [0u8; 70000];
     read_case(length_of(head), &mut body)
 }
 

@@ -2,7 +2,6 @@
 -- Assumes nothing.
 use Prim.Native.Nat.{ℕ, zero, suc, _+_, _<_, _≤_}
 use mathlib.Core.Path.{_≡_, sym, _∙_}
-use mathlib.Core.Logic.{inl, inr}
 use mathlib.Core.List.{List, flatten}
 use mathlib.Core.Bool.{true}
 use native.Mathlib.Omega.{arith}
@@ -10,7 +9,7 @@ use lib.ListN.{length}
 use borrow.Author.Tests.{leb-true, le-leb}
 use Rattle.lists.specs.Ladder.{firstNo, accepted}
 use Rattle.lists.specs.Tables.{tabulateFrom, tabulate}
-use Rattle.lists.proofs.Choices.{order, between-yes, between-least-true, between-most-true}
+use Rattle.lists.proofs.Choices.{here-or-later, between-yes, between-least-true, between-most-true}
 use Rattle.lists.proofs.Ladders.{asked, all-asked, ask-yes, accepted-none, unless-none, firstNo-append, first-none}
 use Rattle.circuit.specs.File.{inputsOf, gatesOf, headLength, lengthOf, kindByte, delayOf, inertialOf, entriesOf, faninsOf, kindOf}
 use Rattle.circuit.specs.Limits.{mostInputs, mostGates, delaysSuit, allBelow}
@@ -64,10 +63,7 @@ unfolding tabulateFrom flatten
 gates-passed file zero j e k a b = absurd (omega arith)
 gates-passed file (suc n) j e k a b =
     let q = first-none (firstNo (gateQuestions file j)) _ (sym (firstNo-append (gateQuestions file j) (flatten (tabulateFrom n (suc j) (gateQuestions file))) (gate-numbered file j)) ∙ e) in
-    elim (order k j) [
-      | inl h ↦ rw (let w : k ≡ j = omega arith in w) (gate-passed file j (q .0))
-      | inr h ↦ gates-passed file n (suc j) (q .1) k h (omega arith)
-    ]
+    here-or-later (GatePassed file) j k a (gate-passed file j (q .0)) (λ h. gates-passed file n (suc j) (q .1) k h (omega arith))
 
 -- an accepted file, whole
 pub record Passed (file : List ℕ) (s : Size) : Type 0 where

@@ -3,7 +3,6 @@
 -- Assumes nothing.
 use Prim.Native.Nat.{ℕ, zero, suc, _+_, _-_, _*_, _/_, _<_, _≤_}
 use mathlib.Core.Path.{_≡_, refl}
-use mathlib.Core.Logic.{inl, inr}
 use mathlib.Core.List.{List, [], _∷_, _++_, map, flatMap}
 use mathlib.Core.Bool.{true}
 use native.Mathlib.Omega.{arith}
@@ -13,7 +12,7 @@ use lib.Dec.{ltb}
 use borrow.Author.Tests.{eq-eqb, le-leb, ltb-true}
 use Rattle.lists.specs.Ladder.{between}
 use Rattle.lists.specs.Tables.{every}
-use Rattle.lists.proofs.Choices.{order, and-left, and-right, and-both, between-yes}
+use Rattle.lists.proofs.Choices.{here-or-later, and-left, and-right, and-both, between-yes}
 use Rattle.lists.proofs.Standing.{Stands, stands-left, stands-right, stands-itself}
 use Rattle.method.specs.declared.Kind.{Kind}
 use Rattle.method.specs.declared.Kind.the-variants.{Buf, Not, And, Nand, Or, Nor, Xor, Xnor}
@@ -98,10 +97,8 @@ gate-passes s j at g w l =
 gates-pass : (s : List ℕ) (j at : ℕ) (gs : List Gate) → WrittenFrom s j at gs → GatesWithin (inputsOf s + j) gs → (k : ℕ) → j ≤ k → k < j + length gs → GatePassed s k
 gates-pass s j at [] w l k a b = absurd (omega arith)
 gates-pass s j at (g ∷ gs) w l k a b =
-    elim (order k j) [
-      | inl h ↦ rw (let q : k ≡ j = omega arith in q) (gate-passes s j at g (w .0) (l .0))
-      | inr h ↦ gates-pass s (suc j) (at + recordLength (length (g .fanins))) gs (w .1) (rw (add-suc (inputsOf s) j) (l .1)) k h (omega arith)
-    ]
+    here-or-later (GatePassed s) j k a (gate-passes s j at g (w .0) (l .0))
+    (λ h. gates-pass s (suc j) (at + recordLength (length (g .fanins))) gs (w .1) (rw (add-suc (inputsOf s) j) (l .1)) k h (omega arith))
 
 pub encoded-head : (c : Circuit) (s : List ℕ) → Within c → Encoded c s → Head s
 encoded-head c s l e =

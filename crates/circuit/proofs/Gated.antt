@@ -5,6 +5,7 @@ use mathlib.Core.Path.{_≡_, sym, _∙_}
 use mathlib.Core.List.{List, flatten}
 use mathlib.Core.Bool.{Bool, true, false, not}
 use native.Mathlib.Omega.{arith}
+use lib.ListN.{drop}
 use borrow.Author.Tests.{eq-eqb, ne-eqb, le-leb, lt-leb, lt-ltb, le-ltb, not-true, not-false}
 use Rattle.lists.specs.Ladder.{firstNo, between, accepted, refused}
 use Rattle.lists.specs.Tables.{tabulateFrom, tabulate}
@@ -50,34 +51,45 @@ module _ (net n i : ℕ) (f : ℕ → ℕ) {whole : Bool} (h : whole ≡ allBelo
   unfolding allBelow
   below-end l = sym (h ∙ rw (from-end n i f l))
 
--- questions 6 to 9 of gate j, from what the functions answer
+-- questions 6 to 9 of gate j, from what the functions answer: a level for each question passed
 module _ (file : List ℕ) (j : ℕ) {kind : ℕ} (a : kind ≡ kindByte file j) where
   pub no-6 : 7 < kind → 6 ≡ firstNo (gateQuestions file j)
   unfolding gateQuestions
-  no-6 n = rw (← a) (sym (ask-no _ _ _ (lt-leb _ _ n)))
+  no-6 n = sym (ask-no _ _ _ (rw (← a) (lt-leb _ _ n)))
 
   module _ (y6 : kind ≤ 7) {b7 : Bool} (e7 : b7 ≡ delaysSuit (delayOf file j) (inertialOf file j)) where
+    past-6 : firstNo (gateQuestions file j) ≡ firstNo (drop 1 (gateQuestions file j))
+    unfolding gateQuestions
+    past-6 = ask-yes _ _ _ (rw (← a) (le-leb _ _ y6))
+
     pub no-7 : not b7 ≡ true → 7 ≡ firstNo (gateQuestions file j)
     unfolding gateQuestions
-    no-7 n = rw (← a, ← e7) (sym (ask-yes _ _ _ (le-leb _ _ y6) ∙ ask-no _ _ _ (not-true b7 n)))
+    no-7 n = sym (past-6 ∙ ask-no _ _ _ (sym e7 ∙ not-true b7 n))
 
     module _ (y7 : not b7 ≡ false) {b8 : Bool} (e8 : b8 ≡ lengthSuits (lengthOf file j) (kindOf kind) (entriesOf file j)) where
+      past-7 : firstNo (gateQuestions file j) ≡ firstNo (drop 2 (gateQuestions file j))
+      unfolding gateQuestions
+      past-7 = past-6 ∙ ask-yes _ _ _ (sym e7 ∙ not-false b7 y7)
+
+      test-8 : lengthSuits (lengthOf file j) (kindOf (kindByte file j)) (entriesOf file j) ≡ b8
+      test-8 = rw (← a) (sym e8)
+
       pub no-8 : not b8 ≡ true → 8 ≡ firstNo (gateQuestions file j)
       unfolding gateQuestions
-      no-8 n = rw (← a, ← e7, ← e8) (sym (ask-yes _ _ _ (le-leb _ _ y6) ∙ ask-yes _ _ _ (not-false b7 y7) ∙ ask-no _ _ _ (not-true b8 n)))
+      no-8 n = sym (past-7 ∙ ask-no _ _ _ (test-8 ∙ not-true b8 n))
 
       module _ (y8 : not b8 ≡ false) {b9 : Bool} (e9 : b9 ≡ allBelow (inputsOf file + j) (faninsOf file j)) where
+        past-8 : firstNo (gateQuestions file j) ≡ firstNo (drop 3 (gateQuestions file j))
+        unfolding gateQuestions
+        past-8 = past-7 ∙ ask-yes _ _ _ (test-8 ∙ not-false b8 y8)
+
         pub no-9 : not b9 ≡ true → 9 ≡ firstNo (gateQuestions file j)
         unfolding gateQuestions
-        no-9 n =
-            rw (← a, ← e7, ← e8, ← e9)
-            (sym (ask-yes _ _ _ (le-leb _ _ y6) ∙ ask-yes _ _ _ (not-false b7 y7) ∙ ask-yes _ _ _ (not-false b8 y8) ∙ ask-no _ _ _ (not-true b9 n)))
+        no-9 n = sym (past-8 ∙ ask-no _ _ _ (sym e9 ∙ not-true b9 n))
 
         pub none-9 : not b9 ≡ false → 0 ≡ firstNo (gateQuestions file j)
         unfolding gateQuestions
-        none-9 n =
-            rw (← a, ← e7, ← e8, ← e9)
-            (sym (ask-yes _ _ _ (le-leb _ _ y6) ∙ ask-yes _ _ _ (not-false b7 y7) ∙ ask-yes _ _ _ (not-false b8 y8) ∙ ask-yes _ _ _ (not-false b9 n) ∙ all-asked))
+        none-9 n = sym (past-8 ∙ ask-yes _ _ _ (sym e9 ∙ not-false b9 n) ∙ all-asked)
 
 -- a record, from the numbers read
 pub record-is : (file : List ℕ) (j : ℕ) {start : ℕ} → start ≡ offsetOf file j → {kind : Kind} {k : ℕ} → kind ≡ kindOf k → k ≡ byteAt file start → {d di : ℕ} → d ≡ byteAt file (start + 1) → di ≡ byteAt file (start + 2)

@@ -17,6 +17,10 @@ either false = inr refl
 pub order : (a b : ℕ) → (a ≤ b) ⊎ (b < a)
 order a b = elim (either (leb a b)) [ inl e ↦ inl (leb-true a b e) | inr e ↦ inr (leb-false a b e) ]
 
+-- what holds at j, and at k where k comes later, holds at k
+pub here-or-later : (P : ℕ → Type 0) (j k : ℕ) → j ≤ k → P j → (j < k → P k) → P k
+here-or-later P j k h here later = elim (order k j) [ inl a ↦ rw (let q : k ≡ j = omega arith in q) here | inr a ↦ later a ]
+
 pub data Tri (a b : ℕ) : Type 0 where
   less : a < b → Tri a b
   same : a ≡ b → Tri a b

@@ -2,7 +2,6 @@
 -- Assumes nothing.
 use Prim.Native.Nat.{ℕ, zero, suc, _+_, _-_, _≤_, _<_}
 use mathlib.Core.Path.{_≡_, refl, sym, ap, ap₂, _∙_}
-use mathlib.Core.Logic.{inl, inr}
 use mathlib.Core.Bool.{Bool, true}
 use mathlib.Core.List.{List, [], _∷_, _++_, map}
 use native.Mathlib.Omega.{arith}
@@ -10,7 +9,7 @@ use native.Mathlib.Nat.{add-zero}
 use native.Mathlib.Numerals.{add-one}
 use lib.ListN.{length, getD}
 use Rattle.lists.specs.Tables.{tabulateFrom, tabulate, every}
-use Rattle.lists.proofs.Choices.{order, and-left, and-right, and-both}
+use Rattle.lists.proofs.Choices.{here-or-later, and-left, and-right, and-both}
 
 pub one-less : (n j : ℕ) → j < n → n - j ≡ suc (n - (j + 1))
 one-less n j l = let e : n - j ≡ (n - (j + 1)) + 1 = omega arith in e ∙ add-one (n - (j + 1))
@@ -59,10 +58,8 @@ module _ {A : Type 0} (p : A → Bool) (f : ℕ → A) where
   unfolding tabulateFrom
   every-from zero j e k a b = absurd (omega arith)
   every-from (suc n) j e k a b =
-      elim (order k j) [
-        | inl h ↦ rw (let q : k ≡ j = omega arith in q) (and-left (p (f j)) (every (map p (tabulateFrom n (suc j) f))) e)
-        | inr h ↦ every-from n (suc j) (and-right (p (f j)) (every (map p (tabulateFrom n (suc j) f))) e) k h (omega arith)
-      ]
+      let rest = every (map p (tabulateFrom n (suc j) f)) in
+      here-or-later (λ (m : ℕ). p (f m) ≡ true) j k a (and-left (p (f j)) rest e) (λ h. every-from n (suc j) (and-right (p (f j)) rest e) k h (omega arith))
 
   pub from-every : (n j : ℕ) → ((k : ℕ) → j ≤ k → k < j + n → p (f k) ≡ true) → every (map p (tabulateFrom n j f)) ≡ true
   unfolding tabulateFrom

@@ -29,6 +29,9 @@ loop-less c = search needs
 loop-again : tie.Need-loop-again Inv-loop μ-loop
 loop-again c = search needs
 
+end-of-turns-requires : tie.Need-end-of-turns-requires Inv-loop μ-loop
+end-of-turns-requires c κs = search needs
+
 returns-2 : tie.Need-returns-2 Inv-loop μ-loop
 returns-2 c = search needs
 
@@ -44,4 +47,5 @@ main-spec =
     add-turns
     loop-less
     loop-again
+    end-of-turns-requires
     returns-2)
