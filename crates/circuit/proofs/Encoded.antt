@@ -17,10 +17,10 @@ use Rattle.lists.proofs.Standing.{Stands, stands-left, stands-right, stands-its
 use Rattle.method.specs.declared.Kind.{Kind}
 use Rattle.method.specs.declared.Kind.the-variants.{Buf, Not, And, Nand, Or, Nor, Xor, Xnor}
 use Rattle.method.specs.Kinds.{mostFanins}
-use Rattle.method.specs.Circuit.{Gate, Circuit}
+use Rattle.method.specs.Circuit.{Gate, Circuit, allBelow}
 use Rattle.method.proofs.Taking.{takes-range}
 use Rattle.circuit.specs.File.{inputsOf, gatesOf, headLength, lengthOf, recordLength}
-use Rattle.circuit.specs.Limits.{mostDelay, delaysSuit, allBelow, GateWithin, GatesWithin, Within}
+use Rattle.circuit.specs.Limits.{mostDelay, delaysSuit, GateWithin, GatesWithin, Within}
 use Rattle.circuit.specs.Questions.{fills, lengthSuits}
 use Rattle.circuit.specs.Encode.{twoBytes, kindNumber, encodeGate, encodePairs, encode}
 use Rattle.circuit.specs.Faithful.{Bytes}

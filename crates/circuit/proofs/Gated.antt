@@ -13,9 +13,10 @@ use Rattle.lists.proofs.Ladders.{ask-yes, ask-no, all-asked, firstNo-append, fi
 use Rattle.lists.proofs.Tabled.{from-step, from-end}
 use Rattle.method.specs.Kinds.{takes}
 use Rattle.method.specs.declared.Kind.{Kind}
+use Rattle.method.specs.Circuit.{allBelow}
 use Rattle.circuit.specs.declared.GateRecord.{GateRecord}
 use Rattle.circuit.specs.File.{byteAt, offsetOf, inputsOf, gatesOf, lengthOf, recordLength, kindByte, delayOf, inertialOf, entriesOf, faninAt, faninsOf, kindOf, recordOf}
-use Rattle.circuit.specs.Limits.{mostDelay, delaysSuit, allBelow}
+use Rattle.circuit.specs.Limits.{mostDelay, delaysSuit}
 use Rattle.circuit.specs.Questions.{lengthSuits, headQuestions, gateQuestions, questions, sizeOf, readOf}
 
 -- question 7

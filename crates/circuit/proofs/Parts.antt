@@ -12,11 +12,11 @@ use Rattle.lists.specs.Ladder.{accepted}
 use Rattle.lists.specs.Tables.{tabulate}
 use Rattle.lists.proofs.Tabled.{from-length, tabulate-at, every-from}
 use Rattle.method.specs.Kinds.{mostFanins}
-use Rattle.method.specs.Circuit.{Gate}
+use Rattle.method.specs.Circuit.{Gate, allBelow}
 use Rattle.method.proofs.Taking.{takes-range}
 use Rattle.circuit.specs.declared.GateRecord.{GateRecord}
 use Rattle.circuit.specs.File.{inputsOf, gatesOf, faninAt, faninsOf, gateOf, recordOf, circuitOf}
-use Rattle.circuit.specs.Limits.{mostDelay, allBelow, GateWithin}
+use Rattle.circuit.specs.Limits.{mostDelay, GateWithin}
 use Rattle.circuit.specs.Questions.{Size, readOf}
 use Rattle.circuit.proofs.Accepted.{passed}
 use Rattle.circuit.proofs.Faithful.{gate-within}

@@ -2,13 +2,11 @@
 use Prim.Native.Nat.{ℕ, suc, _≤_}
 use mathlib.Core.Path.{_≡_}
 use mathlib.Core.Bool.{Bool, true, _&&_}
-use mathlib.Core.List.{List, [], _∷_, map}
+use mathlib.Core.List.{List, [], _∷_}
 use lib.ListN.{length}
-use lib.Dec.{ltb}
 use Rattle.lists.specs.Ladder.{between}
-use Rattle.lists.specs.Tables.{every}
 use Rattle.method.specs.Kinds.{takes}
-use Rattle.method.specs.Circuit.{Gate, Circuit}
+use Rattle.method.specs.Circuit.{Gate, Circuit, allBelow}
 
 abbrev pub mostInputs : ℕ
 mostInputs = 32
@@ -23,10 +21,6 @@ mostDelay = 63
 -- d is from 1 to 63, and di from 0 to 63
 unfoldable pub delaysSuit : ℕ → ℕ → Bool
 delaysSuit d di = between 1 mostDelay d && between 0 mostDelay di
-
--- every fan-in number is below the gate's own net number
-unfoldable pub allBelow : ℕ → List ℕ → Bool
-allBelow net fanins = every (map (λ (n : ℕ). ltb n net) fanins)
 
 -- a gate that drives this net
 pub record GateWithin (net : ℕ) (g : Gate) : Type 0 where

@@ -8,8 +8,9 @@ use Rattle.lists.specs.Ladder.{Question, _orElse_, between, Answer, accepted, r
 use Rattle.lists.specs.Tables.{tabulate}
 use Rattle.method.specs.declared.Kind.{Kind}
 use Rattle.method.specs.Kinds.{takes}
+use Rattle.method.specs.Circuit.{allBelow}
 use Rattle.circuit.specs.File.{inputsOf, gatesOf, headLength, offsetOf, lengthOf, recordHead, recordLength, kindByte, delayOf, inertialOf, entriesOf, faninsOf, kindOf}
-use Rattle.circuit.specs.Limits.{mostInputs, mostGates, delaysSuit, allBelow}
+use Rattle.circuit.specs.Limits.{mostInputs, mostGates, delaysSuit}
 use Rattle.circuit.specs.declared.Reading.{Reading}
 use Rattle.circuit.specs.declared.Reading.the-variants.{Accepted, Refused}
 

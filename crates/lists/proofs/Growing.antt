@@ -6,6 +6,7 @@ use mathlib.Core.List.{List, [], _∷_, _++_, map}
 use native.Mathlib.Omega.{arith}
 use native.Mathlib.Nat.{add-zero}
 use lib.ListN.{length, getD, length-append, List·getD-append}
+use Rattle.lists.specs.Tables.{tabulateFrom}
 use Rattle.lists.specs.Grow.{grow}
 
 module _ {A B : Type 0} (R : A → B → Type 0) where
@@ -25,6 +26,11 @@ module _ {A B : Type 0} (R : A → B → Type 0) where
   pub all2-map : {I : Type 0} (f : I → A) (g : I → B) → ((i : I) → R (f i) (g i)) → (is : List I) → All2 (map f is) (map g is)
   all2-map f g h [] = none
   all2-map f g h (i ∷ is) = both (h i) (all2-map f g h is)
+
+  pub all2-from : (f : ℕ → A) (g : ℕ → B) → ((i : ℕ) → R (f i) (g i)) → (n j : ℕ) → All2 (tabulateFrom n j f) (tabulateFrom n j g)
+  unfolding tabulateFrom
+  all2-from f g h zero j = none
+  all2-from f g h (suc n) j = both (h j) (all2-from f g h n (suc j))
 
   -- two folds keep a relation between their entries if each gate keeps it
   module _ {G : Type 0} (faninsOf : G → List ℕ) (a : A) (f : G → List A → A) (b : B) (g : G → List B → B)

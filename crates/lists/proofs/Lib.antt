@@ -8,3 +8,4 @@ pub mod Padding
 pub mod Flat
 pub mod Standing
 pub mod Growing
+pub mod ByNumber

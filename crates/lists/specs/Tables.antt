@@ -1,7 +1,7 @@
 -- Lists made place by place, and tests over all entries of a list.
 use Prim.Native.Nat.{ℕ, zero, suc}
-use mathlib.Core.Bool.{Bool, true, false, _&&_, _||_}
-use mathlib.Core.List.{List, [], _∷_}
+use mathlib.Core.Bool.{Bool, true, false, _&&_, _||_, Bool·beq}
+use mathlib.Core.List.{List, [], _∷_, map}
 
 module _ {A : Type 0} where
   -- f at n places from j on
@@ -21,3 +21,7 @@ every (b ∷ bs) = b && every bs
 abbrev pub some : List Bool → Bool
 some [] = false
 some (b ∷ bs) = b || some bs
+
+-- is every one of these levels v?
+abbrev pub allSame : Bool → List Bool → Bool
+allSame v bs = every (map (λ (b : Bool). Bool·beq b v) bs)

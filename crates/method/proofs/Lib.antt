@@ -1,2 +1,5 @@
--- Laws on the data of a circuit.
+-- Laws on circuits, frames, waves and words; every crate above cites them.
 pub mod Taking
+pub mod Rising
+pub mod Lasting
+pub mod Bench

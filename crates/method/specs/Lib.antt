@@ -1,3 +1,22 @@
--- What a circuit is and what its gates compute.
+-- What a circuit is, the method of potential-change frames, the time-by-time machine, and what holds between them.
+-- A circuit and what drives it.
 pub mod Kinds
 pub mod Circuit
+pub mod Stimulus
+-- The method: times, indices, frames, values, and what is read off them.
+pub mod Times
+pub mod Indices
+pub mod Frames
+pub mod Filter
+pub mod Traces
+pub mod Look
+-- The machine that knows none of these.
+pub mod Machine
+-- 64 lanes in a word.
+pub mod Words
+pub mod Packed
+-- What holds: proved under proofs/.
+pub mod Bench
+pub mod Netwise
+pub mod Agreement
+pub mod Lanes

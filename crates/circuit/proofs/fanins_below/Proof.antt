@@ -4,8 +4,8 @@ use Prim.Native.Nat.{_≤_, _-_}
 use mathlib.Core.Path.{_≡_}
 use native.Mathlib.Nat.{sub-zero}
 use Rattle.lists.specs.Tables.{tabulate, tabulateFrom}
+use Rattle.method.specs.Circuit.{allBelow}
 use Rattle.circuit.specs.File.{faninAt}
-use Rattle.circuit.specs.Limits.{allBelow}
 use Rattle.circuit.proofs.Gated.{not-below, below-next, below-end}
 use borrow.Author.Needs.{needs}
 use Rattle.circuit.proofs.fanins_below.Statement.{statement}

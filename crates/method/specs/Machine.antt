@@ -1,0 +1,46 @@
+-- The time-by-time machine. It knows no frames and runs for one lane: each net is a wave, its level at every time.
+use Prim.Native.Nat.{ℕ, zero, suc, _-_}
+use mathlib.Core.Bool.{Bool, false, cond}
+use mathlib.Core.List.{List, map}
+use lib.ListN.{getD}
+use Rattle.lists.specs.Tables.{tabulateFrom, tabulate, allSame}
+use Rattle.lists.specs.Grow.{grow}
+use Rattle.method.specs.Kinds.{gateFn}
+use Rattle.method.specs.Circuit.{Gate, Circuit}
+use Rattle.method.specs.Stimulus.{Stimulus, Stimuli}
+
+abbrev pub Wave : Type 0
+Wave = ℕ → Bool
+
+-- an input: the before-bit at 0, the after-bit from 1
+abbrev pub inputWave : Stimulus → Wave
+inputWave s zero = s .before
+inputWave s (suc t) = s .after
+
+-- a gate's raw(t): the function of its fan-ins' out at t - d, or at 0 if t < d, where the difference of numbers is 0
+abbrev pub rawWave : Gate → List Wave → Wave
+rawWave g fanins t = gateFn (g .kind) (map (λ (out : Wave). out (t - g .delay)) fanins)
+
+-- is raw equal at every time from t to t + di?
+unfoldable pub settled : ℕ → Wave → ℕ → Bool
+settled di raw t = allSame (raw t) (tabulateFrom (suc di) t raw)
+
+-- out(0) = raw(0); out(t) = raw(t) if raw is equal at every time from t to t + di, else out(t - 1)
+abbrev pub outWave : ℕ → Wave → Wave
+outWave di raw zero = raw 0
+outWave di raw (suc t) = cond (settled di raw (suc t)) (raw (suc t)) (outWave di raw t)
+
+abbrev pub gateWave : Gate → List Wave → Wave
+gateWave g fanins = outWave (g .inertial) (rawWave g fanins)
+
+-- stands for a net that does not exist
+abbrev pub noWave : Wave
+noWave t = false
+
+-- all nets of a circuit: the inputs, then gate by gate
+unfoldable pub waves : Circuit → Stimuli → List Wave
+waves c s = grow (λ (g : Gate). g .fanins) noWave gateWave (tabulate (c .inputs) (λ (i : ℕ). inputWave (s i))) (c .gates)
+
+-- out(t) of net n
+abbrev pub machine : Circuit → Stimuli → ℕ → Wave
+machine c s n = getD (waves c s) n noWave

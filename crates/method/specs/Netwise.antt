@@ -1,0 +1,86 @@
+-- The frames, the traces and the machine as equations by net number over the finished nets of a circuit without feedback.
+-- So nothing hides behind the fold that makes the nets, nor behind what stands for a net or a frame that does not exist.
+-- `proofs/Netwise` proves these records.
+use Prim.Native.Nat.{ℕ, zero, suc, _+_, _-_, _<_}
+use mathlib.Core.Path.{_≡_}
+use mathlib.Core.Bool.{Bool, false, cond}
+use mathlib.Core.List.{List, [], _∷_, map}
+use lib.ListN.{length, getD}
+use Rattle.lists.specs.Tables.{tabulate}
+use Rattle.lists.specs.Grow.{grow}
+use Rattle.method.specs.Kinds.{gateFn}
+use Rattle.method.specs.Circuit.{Gate, Circuit, gateAt, NoFeedback}
+use Rattle.method.specs.Stimulus.{Stimulus, Stimuli}
+use Rattle.method.specs.Times.{gateTimes}
+use Rattle.method.specs.Indices.{faninIndex, inertialIndices}
+use Rattle.method.specs.Frames.{Frames, inputFrames, gateFrames, frames, framesAt}
+use Rattle.method.specs.Filter.{filtered}
+use Rattle.method.specs.Traces.{Trace, inputTrace, gateTrace, traces, traceAt}
+use Rattle.method.specs.Machine.{Wave, inputWave, gateWave, settled, waves, machine}
+
+-- ---- what the equations of gate j are about
+
+module _ (c : Circuit) (j : ℕ) where
+  -- the potential times of its fan-ins
+  abbrev pub faninTimesOf : List (List ℕ)
+  faninTimesOf = map (λ (m : ℕ). framesAt c m .times) (gateAt c j .fanins)
+
+  module _ (s : Stimuli) where
+    -- its raw value at a frame of time t: the function of its fan-ins' values at the indexed frames
+    abbrev pub rawOf : ℕ → Bool
+    rawOf t =
+        gateFn (gateAt c j .kind)
+        (map (λ (m : ℕ). getD (traceAt c s m .values) (faninIndex (gateAt c j .delay) (framesAt c m .times) t) false) (gateAt c j .fanins))
+
+    -- its raw(t) in the machine: the function of its fan-ins' out at t - d
+    abbrev pub machineRaw : Wave
+    machineRaw t = gateFn (gateAt c j .kind) (map (λ (m : ℕ). machine c s m (t - gateAt c j .delay)) (gateAt c j .fanins))
+
+-- ---- the nets: I inputs and G gates, and gate j drives net I + j
+
+pub record Netwise (c : Circuit) : Type 0 where
+  -- there are exactly I + G nets
+  pub frames-count : length (frames c) ≡ c .inputs + length (c .gates)
+  pub traces-count : (s : Stimuli) → length (traces c s) ≡ c .inputs + length (c .gates)
+  pub waves-count : (s : Stimuli) → length (waves c s) ≡ c .inputs + length (c .gates)
+
+  -- input i
+  pub input-frames : (i : ℕ) → i < c .inputs → framesAt c i ≡ inputFrames
+  pub input-values : (s : Stimuli) (i : ℕ) → i < c .inputs → traceAt c s i .values ≡ s i .before ∷ s i .after ∷ []
+  pub input-first : (s : Stimuli) (i : ℕ) → i < c .inputs → machine c s i 0 ≡ s i .before
+  pub input-later : (s : Stimuli) (i t : ℕ) → i < c .inputs → machine c s i (suc t) ≡ s i .after
+
+  -- the frames of gate j: times, inertial indices, fan-in rows
+  pub gate-times : (j : ℕ) → j < length (c .gates) → framesAt c (c .inputs + j) .times ≡ gateTimes (gateAt c j .delay) (faninTimesOf c j)
+  pub gate-inertial : (j : ℕ) → j < length (c .gates)
+      → framesAt c (c .inputs + j) .inertial ≡ inertialIndices (gateAt c j .inertial) (framesAt c (c .inputs + j) .times)
+  pub gate-rows : (j : ℕ) → j < length (c .gates)
+      → framesAt c (c .inputs + j) .rows
+      ≡ map (λ (t : ℕ). map (λ (ss : List ℕ). faninIndex (gateAt c j .delay) ss t) (faninTimesOf c j)) (framesAt c (c .inputs + j) .times)
+
+  -- its values: its raw values, filtered
+  pub gate-values : (s : Stimuli) (j : ℕ) → j < length (c .gates)
+      → traceAt c s (c .inputs + j) .values ≡ filtered (framesAt c (c .inputs + j) .inertial) (map (rawOf c j s) (framesAt c (c .inputs + j) .times))
+
+  -- the machine's out(0) = raw(0), and out(t) = raw(t) if raw is equal at every time from t to t + di, else out(t - 1)
+  pub gate-first : (s : Stimuli) (j : ℕ) → j < length (c .gates) → machine c s (c .inputs + j) 0 ≡ machineRaw c j s 0
+  pub gate-later : (s : Stimuli) (j t : ℕ) → j < length (c .gates)
+      → machine c s (c .inputs + j) (suc t)
+      ≡ cond (settled (gateAt c j .inertial) (machineRaw c j s) (suc t)) (machineRaw c j s (suc t)) (machine c s (c .inputs + j) t)
+
+-- ---- no lookup falls on a default
+
+pub record NoDefault (c : Circuit) : Type 0 where
+  -- whatever stands for a net that does not exist, the nets are the same
+  pub any-frames : (other : Frames) → grow (λ (g : Gate). g .fanins) other gateFrames (tabulate (c .inputs) (λ (i : ℕ). inputFrames)) (c .gates) ≡ frames c
+  pub any-trace : (s : Stimuli) (other : Trace)
+      → grow (λ (g : Gate). g .fanins) other gateTrace (tabulate (c .inputs) (λ (i : ℕ). inputTrace (s i))) (c .gates) ≡ traces c s
+  pub any-wave : (s : Stimuli) (other : Wave)
+      → grow (λ (g : Gate). g .fanins) other gateWave (tabulate (c .inputs) (λ (i : ℕ). inputWave (s i))) (c .gates) ≡ waves c s
+
+  -- each frame has one value, and a fan-in index names a frame of the fan-in
+  pub value-each : (s : Stimuli) (n : ℕ) → length (traceAt c s n .values) ≡ length (framesAt c n .times)
+  pub index-within : (d n t : ℕ) → faninIndex d (framesAt c n .times) t < length (framesAt c n .times)
+
+abbrev pub NetByNet : Type 0
+NetByNet = (c : Circuit) → NoFeedback c → Netwise c × NoDefault c

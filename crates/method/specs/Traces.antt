@@ -1,0 +1,47 @@
+-- The values of every net's frames in one lane, decided by that lane's own bits.
+use Prim.Native.Nat.{ℕ}
+use mathlib.Core.Bool.{Bool, false}
+use mathlib.Core.List.{List, [], _∷_, map, zipWith}
+use lib.ListN.{getD}
+use Rattle.lists.specs.Tables.{tabulate}
+use Rattle.lists.specs.Grow.{grow}
+use Rattle.method.specs.declared.Kind.{Kind}
+use Rattle.method.specs.Kinds.{gateFn}
+use Rattle.method.specs.Circuit.{Gate, Circuit}
+use Rattle.method.specs.Stimulus.{Stimulus, Stimuli}
+use Rattle.method.specs.Frames.{Frames, inputFrames, gateFrames, noFrames}
+use Rattle.method.specs.Filter.{filtered}
+
+-- one net in one lane: its frames, and a value for each
+pub record Trace : Type 0 where
+  pub frames : Frames
+  pub values : List Bool
+
+-- the before-bit and the after-bit, not filtered
+abbrev pub inputTrace : Stimulus → Trace
+inputTrace s = record { frames = inputFrames; values = s .before ∷ s .after ∷ [] }
+
+-- the raw value of a frame: the gate's function of its fan-ins' values at the indexed frames
+unfoldable pub rawValue : Kind → List (List Bool) → List ℕ → Bool
+rawValue k faninValues row = gateFn k (zipWith (λ (i : ℕ) (vs : List Bool). getD vs i false) row faninValues)
+
+-- a gate with these frames, from the values of its fan-ins
+unfoldable pub traceWith : Kind → List (List Bool) → Frames → Trace
+traceWith k faninValues f = record { frames = f; values = filtered (f .inertial) (map (rawValue k faninValues) (f .rows)) }
+
+-- a gate, from the traces of its fan-ins
+unfoldable pub gateTrace : Gate → List Trace → Trace
+gateTrace g fanins =
+    traceWith (g .kind) (map (λ (f : Trace). f .values) fanins) (gateFrames g (map (λ (f : Trace). f .frames) fanins))
+
+-- stands for a net that does not exist
+abbrev pub noTrace : Trace
+noTrace = record { frames = noFrames; values = false ∷ [] }
+
+-- all nets of a circuit: the inputs, then gate by gate
+unfoldable pub traces : Circuit → Stimuli → List Trace
+traces c s = grow (λ (g : Gate). g .fanins) noTrace gateTrace (tabulate (c .inputs) (λ (i : ℕ). inputTrace (s i))) (c .gates)
+
+-- net n
+abbrev pub traceAt : Circuit → Stimuli → ℕ → Trace
+traceAt c s n = getD (traces c s) n noTrace
