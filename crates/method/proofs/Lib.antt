@@ -2,4 +2,7 @@
 pub mod Taking
 pub mod Rising
 pub mod Lasting
+pub mod Waves
+pub mod Filtering
+pub mod Following
 pub mod Bench
