@@ -75,9 +75,9 @@ module _ {G N : Type 0} (faninsOf : G → List ℕ) (step : G → List N → N) 
       (λ j l. rw (let p : first + 1 + j ≡ first + suc j = omega arith in p) (h (suc j) (omega arith)))
 
   -- what holds of every entry by its number: of the inputs, of what stands for a missing entry, and of a gate's entry
-  -- where it holds of the entries before
-  module _ (P : ℕ → N → Type 0) (Good : G → Type 0) (none : N) (missing : (n : ℕ) → P n none)
-      (made : (nets : List N) (g : G) → Good g → ((n : ℕ) → P n (getD nets n none)) → P (length nets) (step g (map (λ (n : ℕ). getD nets n none) (faninsOf g)))) where
+  -- where it holds of the entries before; `first` is the number of inputs
+  module _ (P : ℕ → N → Type 0) (Good : G → Type 0) (first : ℕ) (none : N) (missing : (n : ℕ) → P n none)
+      (made : (nets : List N) (g : G) → first ≤ length nets → Good g → ((n : ℕ) → P n (getD nets n none)) → P (length nets) (step g (map (λ (n : ℕ). getD nets n none) (faninsOf g)))) where
     one-more : (nets : List N) (x : N) → P (length nets) x → ((n : ℕ) → P n (getD nets n none)) → (n : ℕ) → P n (getD (nets ++ (x ∷ [])) n none)
     one-more nets x new old n =
         elim (tri n (length nets)) [
@@ -86,9 +86,9 @@ module _ {G N : Type 0} (faninsOf : G → List ℕ) (step : G → List N → N) 
           | more h ↦ rw (List·getD-eq-default (nets ++ (x ∷ [])) none {n = n} (rw (length-append nets (x ∷ [])) (omega arith))) (missing n)
         ]
 
-    pub grow-each : (noGate : G) (nets : List N) (gs : List G) → ((j : ℕ) → j < length gs → Good (getD gs j noGate)) → ((n : ℕ) → P n (getD nets n none))
+    pub grow-each : (noGate : G) (nets : List N) (gs : List G) → first ≤ length nets → ((j : ℕ) → j < length gs → Good (getD gs j noGate)) → ((n : ℕ) → P n (getD nets n none))
         → (n : ℕ) → P n (getD (grow faninsOf none step nets gs) n none)
-    grow-each noGate nets [] good old = old
-    grow-each noGate nets (g ∷ gs) good old =
-        grow-each noGate (with none nets g) gs (λ j h. good (suc j) (omega arith))
-        (one-more nets (step g (map (λ (n : ℕ). getD nets n none) (faninsOf g))) (made nets g (good 0 (omega arith)) old) old)
+    grow-each noGate nets [] l good old = old
+    grow-each noGate nets (g ∷ gs) l good old =
+        grow-each noGate (with none nets g) gs (rw (with-length none nets g) (omega arith)) (λ j h. good (suc j) (omega arith))
+        (one-more nets (step g (map (λ (n : ℕ). getD nets n none) (faninsOf g))) (made nets g l (good 0 (omega arith)) old) old)

@@ -5,4 +5,7 @@ pub mod Lasting
 pub mod Waves
 pub mod Filtering
 pub mod Following
+pub mod Planned
+pub mod Counting
+pub mod Agreement
 pub mod Bench

@@ -1,0 +1,150 @@
+-- The frames of a circuit's nets: those of every trace, whatever the pattern; they start at 0 and rise; and how late they get.
+-- Assumes nothing.
+use Prim.Native.Nat.{ℕ, zero, suc, _+_, _-_, _*_, _≤_, zero-le}
+use mathlib.Core.Path.{_≡_, refl, sym, ap, ap₂, _∙_}
+use mathlib.Core.Logic.{_⊎_, inl, inr}
+use mathlib.Core.Bool.{Bool, true, false, _||_, false≢true}
+use mathlib.Core.List.{List, [], _∷_, _++_, map, flatMap}
+use native.Mathlib.Omega.{arith}
+use native.Mathlib.Nat.{mul-suc, mul-le-mul-left}
+use lib.Dec.{eqb}
+use lib.ListN.{length, getD, List·getD-eq-default}
+use borrow.Author.Tests.{eqb-true, eq-eqb}
+use Rattle.lists.specs.Tables.{tabulate}
+use Rattle.lists.proofs.Choices.{either, order}
+use Rattle.lists.proofs.Tabled.{from-length, tabulate-at}
+use Rattle.lists.proofs.Growing.{All2, none, both, all2-at, all2-from, grow-rel}
+use Rattle.lists.proofs.ByNumber.{grow-each}
+use Rattle.method.specs.Circuit.{Gate, Circuit, noGate, DelaysUpTo}
+use Rattle.method.specs.Stimulus.{Stimuli}
+use Rattle.method.specs.Times.{inputTimes, shifted, rising, gateTimes, among}
+use Rattle.method.specs.Frames.{Frames, inputFrames, framesWith, gateFrames, noFrames, frames, framesAt}
+use Rattle.method.specs.Traces.{Trace, inputTrace, traceWith, gateTrace, noTrace, traces, traceAt}
+use Rattle.method.proofs.Rising.{Starts, rising-among, among-append}
+use Rattle.method.proofs.Following.{Follows, follows}
+
+-- ---- the frames of a trace are the circuit's
+
+abbrev HasFrames : Frames → Trace → Type 0
+HasFrames f n = f ≡ n .frames
+
+all-frames : {fs : List Frames} {ns : List Trace} → All2 HasFrames fs ns → fs ≡ map (λ (n : Trace). n .frames) ns
+all-frames none = refl
+all-frames (both r rs) = ap₂ _∷_ r (all-frames rs)
+
+gate-frames : (g : Gate) (fs : List Frames) (ns : List Trace) → All2 HasFrames fs ns → HasFrames (gateFrames g fs) (gateTrace g ns)
+unfolding gateTrace traceWith
+gate-frames g fs ns r = ap (gateFrames g) (all-frames r)
+
+pub frames-are : (c : Circuit) (s : Stimuli) (n : ℕ) → framesAt c n ≡ traceAt c s n .frames
+unfolding frames traces
+frames-are c s n =
+    all2-at HasFrames noFrames noTrace refl
+    (grow-rel HasFrames (λ (g : Gate). g .fanins) noFrames gateFrames noTrace gateTrace refl gate-frames
+    (all2-from HasFrames (λ (i : ℕ). inputFrames) (λ (i : ℕ). inputTrace (s i)) (λ i. refl) (c .inputs) 0) (c .gates)) n
+
+-- ---- they start at 0 and rise, as those of any trace
+
+pub times-start : (c : Circuit) (n : ℕ) → Starts (framesAt c n .times)
+times-start c n =
+    let s : Stimuli = λ (i : ℕ). record { before = false; after = false } in
+    rw (frames-are c s n) (follows c s n .starts)
+
+-- ---- how late they get
+
+-- no time of the list is after `end`
+abbrev pub Ends : ℕ → List ℕ → Type 0
+Ends end ts = (t : ℕ) → among t ts ≡ true → t ≤ end
+
+or-cases : (a b : Bool) → a || b ≡ true → (a ≡ true) ⊎ (b ≡ true)
+or-cases true b e = inl e
+or-cases false b e = inr e
+
+ends-cons : (end x : ℕ) (ts : List ℕ) → x ≤ end → Ends end ts → Ends end (x ∷ ts)
+ends-cons end x ts h k t e =
+    elim (or-cases (eqb t x) (among t ts) e) [
+      | inl q ↦ let p : t ≡ x = eqb-true t x q in omega arith
+      | inr q ↦ k t q
+    ]
+
+ends-append : (end : ℕ) (ss ts : List ℕ) → Ends end ss → Ends end ts → Ends end (ss ++ ts)
+ends-append end ss ts h k t e = elim (or-cases (among t ss) (among t ts) (sym (among-append t ss ts) ∙ e)) [ inl q ↦ h t q | inr q ↦ k t q ]
+
+ends-nil : (end : ℕ) → Ends end []
+ends-nil end t e = absurd (false≢true e)
+
+pub ends-head : (end x : ℕ) (ts : List ℕ) → Ends end (x ∷ ts) → x ≤ end
+ends-head end x ts k = k x (rw (eq-eqb x x refl))
+
+pub ends-tail : (end x : ℕ) (ts : List ℕ) → Ends end (x ∷ ts) → Ends end ts
+ends-tail end x ts k t e = k t (elim (either (eqb t x)) [ inl q ↦ rw q | inr q ↦ rw q e ])
+
+shifted-ends : (d end : ℕ) (ss : List ℕ) → Ends end ss → Ends (end + d) (shifted d ss)
+shifted-ends d end [] k = ends-nil (end + d)
+shifted-ends d end (zero ∷ ss) k = shifted-ends d end ss (ends-tail end zero ss k)
+shifted-ends d end (suc s ∷ ss) k =
+    ends-cons (end + d) (suc s + d) (shifted d ss) (omega (arith, ends-head end (suc s) ss k)) (shifted-ends d end ss (ends-tail end (suc s) ss k))
+
+all-shifted-ends : (d end : ℕ) (nets : List Frames) (fanins : List ℕ) → ((m : ℕ) → Ends end (getD nets m noFrames .times))
+    → Ends (end + d) (flatMap (shifted d) (map (λ (f : Frames). f .times) (map (λ (m : ℕ). getD nets m noFrames) fanins)))
+unfolding flatMap
+all-shifted-ends d end nets [] k = ends-nil (end + d)
+all-shifted-ends d end nets (m ∷ ms) k =
+    ends-append (end + d) (shifted d (getD nets m noFrames .times)) _ (shifted-ends d end (getD nets m noFrames .times) (k m)) (all-shifted-ends d end nets ms k)
+
+gate-ends : (g : Gate) (end : ℕ) (nets : List Frames) → ((m : ℕ) → Ends end (getD nets m noFrames .times))
+    → Ends (end + g .delay) (gateFrames g (map (λ (m : ℕ). getD nets m noFrames) (g .fanins)) .times)
+unfolding gateFrames framesWith gateTimes
+gate-ends g end nets k =
+    let later : List ℕ = flatMap (shifted (g .delay)) (map (λ (f : Frames). f .times) (map (λ (m : ℕ). getD nets m noFrames) (g .fanins))) in
+    ends-cons (end + g .delay) 0 (rising later) zero-le
+    (λ t e. all-shifted-ends (g .delay) end nets (g .fanins) k t (sym (rising-among t later) ∙ e))
+
+module _ (most : ℕ) (c : Circuit) where
+  -- the latest that net n gets
+  abbrev latest : ℕ → ℕ
+  latest n = 1 + most * (n + 1 - c .inputs)
+
+  -- one gate more
+  latest-next : (n : ℕ) → c .inputs ≤ n → 1 + most * (n - c .inputs) + most ≡ latest n
+  latest-next n h = rw (let q : n + 1 - c .inputs ≡ suc (n - c .inputs) = omega arith in q, mul-suc most (n - c .inputs)) (omega arith)
+
+  abbrev InTime : ℕ → Frames → Type 0
+  InTime n f = Ends (latest n) (f .times)
+
+  missing : (n : ℕ) → InTime n noFrames
+  missing n = ends-cons (latest n) 0 [] zero-le (ends-nil (latest n))
+
+  input-in-time : (n : ℕ) → InTime n inputFrames
+  input-in-time n = ends-cons (latest n) 0 (1 ∷ []) zero-le (ends-cons (latest n) 1 [] (omega arith) (ends-nil (latest n)))
+
+  -- the entries before the gate's own end in time for it
+  earlier : (nets : List Frames) → c .inputs ≤ length nets → ((n : ℕ) → InTime n (getD nets n noFrames))
+      → (m : ℕ) → Ends (1 + most * (length nets - c .inputs)) (getD nets m noFrames .times)
+  earlier nets h old m =
+      elim (order (length nets) m) [
+        | inl k ↦ rw (List·getD-eq-default nets noFrames {n = m} k) (ends-cons _ 0 [] zero-le (ends-nil _))
+        | inr k ↦ λ t e. let l : most * (m + 1 - c .inputs) ≤ most * (length nets - c .inputs) = mul-le-mul-left most (omega arith) in
+            let b : t ≤ latest m = old m t e in
+            omega arith
+      ]
+
+  made : (nets : List Frames) (g : Gate) → c .inputs ≤ length nets → g .delay ≤ most → ((n : ℕ) → InTime n (getD nets n noFrames))
+      → InTime (length nets) (gateFrames g (map (λ (n : ℕ). getD nets n noFrames) (g .fanins)))
+  made nets g h small old t e =
+      let b : t ≤ 1 + most * (length nets - c .inputs) + g .delay = gate-ends g (1 + most * (length nets - c .inputs)) nets (earlier nets h old) t e in
+      let q : 1 + most * (length nets - c .inputs) + most ≡ latest (length nets) = latest-next (length nets) h in
+      omega arith
+
+  inputs-in-time : (n : ℕ) → InTime n (getD (tabulate (c .inputs) (λ (i : ℕ). inputFrames)) n noFrames)
+  inputs-in-time n =
+      elim (order (c .inputs) n) [
+        | inl k ↦ rw (List·getD-eq-default (tabulate (c .inputs) (λ (i : ℕ). inputFrames)) noFrames {n = n} (rw (from-length (c .inputs) 0 (λ (i : ℕ). inputFrames)) k)) (missing n)
+        | inr k ↦ rw (tabulate-at (c .inputs) (λ (i : ℕ). inputFrames) noFrames n k) (input-in-time n)
+      ]
+
+  pub times-end : DelaysUpTo most c → (n : ℕ) → Ends (1 + most * (n + 1 - c .inputs)) (framesAt c n .times)
+  unfolding frames
+  times-end small =
+      grow-each (λ (g : Gate). g .fanins) gateFrames InTime (λ (g : Gate). g .delay ≤ most) (c .inputs) noFrames missing made noGate
+      (tabulate (c .inputs) (λ (i : ℕ). inputFrames)) (c .gates) (rw (from-length (c .inputs) 0 (λ (i : ℕ). inputFrames)) (omega arith)) small inputs-in-time
