@@ -8,4 +8,5 @@ pub mod Following
 pub mod Planned
 pub mod Counting
 pub mod Agreement
+pub mod Netwise
 pub mod Bench

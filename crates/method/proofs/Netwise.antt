@@ -1,0 +1,162 @@
+-- Frames, traces and machine net by net: each gate's entry was made from entries that no later gate alters.
+-- Assumes nothing.
+use Prim.Native.Nat.{ℕ, suc, _+_, _-_, _<_}
+use mathlib.Core.Path.{_≡_, refl, sym, ap, _∙_, fun-ext}
+use mathlib.Core.Bool.{Bool, true, false, cond}
+use mathlib.Core.List.{List, [], _∷_, map, zipWith, map-map}
+use native.Mathlib.Omega.{arith}
+use lib.ListN.{length, getD, length-map}
+use Rattle.lists.specs.Tables.{tabulate}
+use Rattle.lists.specs.Grow.{grow}
+use Rattle.lists.proofs.Tabled.{from-length, tabulate-at}
+use Rattle.lists.proofs.Growing.{grow-length, grow-before}
+use Rattle.lists.proofs.ByNumber.{grow-at, grow-any}
+use Rattle.method.specs.Kinds.{gateFn}
+use Rattle.method.specs.Circuit.{Gate, Circuit, noGate, gateAt, allBelow, NoFeedback}
+use Rattle.method.specs.Stimulus.{Stimuli}
+use Rattle.method.specs.Times.{gateTimes}
+use Rattle.method.specs.Indices.{faninIndex}
+use Rattle.method.specs.Frames.{Frames, inputFrames, faninRow, framesWith, gateFrames, noFrames, frames, framesAt}
+use Rattle.method.specs.Filter.{filtered}
+use Rattle.method.specs.Traces.{Trace, inputTrace, rawValue, traceWith, gateTrace, noTrace, traces, traceAt}
+use Rattle.method.specs.Machine.{Wave, inputWave, rawWave, outWave, gateWave, noWave, settled, waves, machine}
+use Rattle.method.specs.Netwise.{faninTimesOf, rawOf, machineRaw, Netwise, NoDefault, NetByNet}
+use Rattle.method.proofs.Lasting.{last-within, index-last}
+use Rattle.method.proofs.Following.{follows}
+use Rattle.method.proofs.Planned.{frames-are, times-start}
+
+-- ---- one law for all three folds
+
+module _ {N : Type 0} (none : N) (step : Gate → List N → N) (input : ℕ → N) (c : Circuit) where
+  abbrev nets : List N
+  nets = grow (λ (g : Gate). g .fanins) none step (tabulate (c .inputs) input) (c .gates)
+
+  nets-count : length nets ≡ c .inputs + length (c .gates)
+  nets-count = grow-length (λ (g : Gate). g .fanins) none step (tabulate (c .inputs) input) (c .gates) ∙ rw (from-length (c .inputs) 0 input)
+
+  input-net : (i : ℕ) → i < c .inputs → getD nets i none ≡ input i
+  input-net i h =
+      grow-before (λ (g : Gate). g .fanins) none step (tabulate (c .inputs) input) (c .gates) i (rw (from-length (c .inputs) 0 input) h)
+      ∙ tabulate-at (c .inputs) input none i h
+
+  module _ (ok : NoFeedback c) where
+    gate-net : (j : ℕ) → j < length (c .gates)
+        → getD nets (c .inputs + j) none ≡ step (gateAt c j) (map (λ (m : ℕ). getD nets m none) (gateAt c j .fanins))
+    unfolding allBelow
+    gate-net j h =
+        grow-at (λ (g : Gate). g .fanins) step none noGate (tabulate (c .inputs) input) (c .gates) j (c .inputs + j) (rw (from-length (c .inputs) 0 input)) h (ok j h)
+
+    any-net : (other : N) → grow (λ (g : Gate). g .fanins) other step (tabulate (c .inputs) input) (c .gates) ≡ nets
+    unfolding allBelow
+    any-net other =
+        grow-any (λ (g : Gate). g .fanins) step none other noGate (tabulate (c .inputs) input) (c .gates) (c .inputs) (sym (from-length (c .inputs) 0 input)) ok
+
+-- ---- the frames of gate j
+
+module _ (c : Circuit) (ok : NoFeedback c) (j : ℕ) (h : j < length (c .gates)) where
+  frames-of : framesAt c (c .inputs + j) ≡ framesWith (gateAt c j) (faninTimesOf c j) (gateTimes (gateAt c j .delay) (faninTimesOf c j))
+  unfolding frames gateFrames
+  frames-of =
+      gate-net noFrames gateFrames (λ (i : ℕ). inputFrames) c ok j h
+      ∙ rw (map-map (λ (f : Frames). f .times) (λ (m : ℕ). framesAt c m) (gateAt c j .fanins))
+
+  times-of : framesAt c (c .inputs + j) .times ≡ gateTimes (gateAt c j .delay) (faninTimesOf c j)
+  unfolding framesWith
+  times-of = ap (λ (f : Frames). f .times) frames-of
+
+  -- with its own times for those that the gate's rule gives
+  frames-with : framesAt c (c .inputs + j) ≡ framesWith (gateAt c j) (faninTimesOf c j) (framesAt c (c .inputs + j) .times)
+  frames-with = frames-of ∙ ap (framesWith (gateAt c j) (faninTimesOf c j)) (sym times-of)
+
+  -- ---- its values in one lane
+
+  module _ (s : Stimuli) where
+    row-of : (t : ℕ) (fanins : List ℕ)
+        → zipWith (λ (i : ℕ) (vs : List Bool). getD vs i false) (faninRow (gateAt c j .delay) (map (λ (m : ℕ). framesAt c m .times) fanins) t) (map (λ (m : ℕ). traceAt c s m .values) fanins)
+        ≡ map (λ (m : ℕ). getD (traceAt c s m .values) (faninIndex (gateAt c j .delay) (framesAt c m .times) t) false) fanins
+    unfolding zipWith
+    row-of t [] = refl
+    row-of t (m ∷ ms) = ap (λ (l : List Bool). getD (traceAt c s m .values) (faninIndex (gateAt c j .delay) (framesAt c m .times) t) false ∷ l) (row-of t ms)
+
+    trace-of : traceAt c s (c .inputs + j) ≡ gateTrace (gateAt c j) (map (traceAt c s) (gateAt c j .fanins))
+    unfolding traces
+    trace-of = gate-net noTrace gateTrace (λ (i : ℕ). inputTrace (s i)) c ok j h
+
+    -- by the frames of its own net
+    values-by : (f : Frames) → f ≡ framesAt c (c .inputs + j)
+        → filtered (f .inertial) (map (rawValue (gateAt c j .kind) (map (λ (m : ℕ). traceAt c s m .values) (gateAt c j .fanins))) (f .rows))
+        ≡ filtered (framesAt c (c .inputs + j) .inertial) (map (rawOf c j s) (framesAt c (c .inputs + j) .times))
+    unfolding framesWith rawValue
+    values-by f e =
+        let vs : List (List Bool) = map (λ (m : ℕ). traceAt c s m .values) (gateAt c j .fanins) in
+        let ts : List ℕ = framesAt c (c .inputs + j) .times in
+        rw e (ap (filtered (framesAt c (c .inputs + j) .inertial))
+        (ap (λ (f : Frames). map (rawValue (gateAt c j .kind) vs) (f .rows)) frames-with
+        ∙ map-map (rawValue (gateAt c j .kind) vs) (faninRow (gateAt c j .delay) (faninTimesOf c j)) ts
+        ∙ ap (λ (r : ℕ → Bool). map r ts) (fun-ext (λ t. ap (gateFn (gateAt c j .kind)) (row-of t (gateAt c j .fanins))))))
+
+    values-of : traceAt c s (c .inputs + j) .values ≡ filtered (framesAt c (c .inputs + j) .inertial) (map (rawOf c j s) (framesAt c (c .inputs + j) .times))
+    unfolding gateTrace traceWith
+    values-of =
+        let fanins : List Trace = map (traceAt c s) (gateAt c j .fanins) in
+        ap (λ (n : Trace). n .values) trace-of
+        ∙ rw (map-map (λ (n : Trace). n .values) (traceAt c s) (gateAt c j .fanins))
+        (values-by (gateFrames (gateAt c j) (map (λ (n : Trace). n .frames) fanins)) (sym (ap (λ (n : Trace). n .frames) trace-of) ∙ sym (frames-are c s (c .inputs + j))))
+
+    -- ---- the machine
+
+    wave-of : machine c s (c .inputs + j) ≡ outWave (gateAt c j .inertial) (machineRaw c j s)
+    unfolding waves
+    wave-of =
+        gate-net noWave gateWave (λ (i : ℕ). inputWave (s i)) c ok j h
+        ∙ ap (outWave (gateAt c j .inertial))
+        (fun-ext (λ t. ap (gateFn (gateAt c j .kind)) (map-map (λ (out : Wave). out (t - gateAt c j .delay)) (machine c s) (gateAt c j .fanins))))
+
+    first-of : machine c s (c .inputs + j) 0 ≡ machineRaw c j s 0
+    first-of = ap (λ (w : Wave). w 0) wave-of
+
+    later-of : (t : ℕ) → machine c s (c .inputs + j) (suc t)
+        ≡ cond (settled (gateAt c j .inertial) (machineRaw c j s) (suc t)) (machineRaw c j s (suc t)) (machine c s (c .inputs + j) t)
+    later-of t =
+        ap (λ (w : Wave). w (suc t)) wave-of
+        ∙ ap (λ (b : Bool). cond (settled (gateAt c j .inertial) (machineRaw c j s) (suc t)) (machineRaw c j s (suc t)) b) (sym (ap (λ (w : Wave). w t) wave-of))
+
+-- ---- the records
+
+module _ (c : Circuit) where
+  input-wave : (s : Stimuli) (i : ℕ) → i < c .inputs → machine c s i ≡ inputWave (s i)
+  unfolding waves
+  input-wave s i h = input-net noWave gateWave (λ (i : ℕ). inputWave (s i)) c i h
+
+  netwise : NoFeedback c → Netwise c
+  unfolding frames traces waves framesWith
+  netwise ok =
+      record {
+        frames-count = nets-count noFrames gateFrames (λ (i : ℕ). inputFrames) c;
+        traces-count = λ s. nets-count noTrace gateTrace (λ (i : ℕ). inputTrace (s i)) c;
+        waves-count = λ s. nets-count noWave gateWave (λ (i : ℕ). inputWave (s i)) c;
+        input-frames = λ i h. input-net noFrames gateFrames (λ (i : ℕ). inputFrames) c i h;
+        input-values = λ s i h. ap (λ (n : Trace). n .values) (input-net noTrace gateTrace (λ (i : ℕ). inputTrace (s i)) c i h);
+        input-first = λ s i h. ap (λ (w : Wave). w 0) (input-wave s i h);
+        input-later = λ s i t h. ap (λ (w : Wave). w (suc t)) (input-wave s i h);
+        gate-times = λ j h. times-of c ok j h;
+        gate-inertial = λ j h. ap (λ (f : Frames). f .inertial) (frames-with c ok j h);
+        gate-rows = λ j h. ap (λ (f : Frames). f .rows) (frames-with c ok j h);
+        gate-values = λ s j h. values-of c ok j h s;
+        gate-first = λ s j h. first-of c ok j h s;
+        gate-later = λ s j t h. later-of c ok j h s t;
+      }
+
+  no-default : NoFeedback c → NoDefault c
+  unfolding frames traces waves
+  no-default ok =
+      record {
+        any-frames = any-net noFrames gateFrames (λ (i : ℕ). inputFrames) c ok;
+        any-trace = λ s. any-net noTrace gateTrace (λ (i : ℕ). inputTrace (s i)) c ok;
+        any-wave = λ s. any-net noWave gateWave (λ (i : ℕ). inputWave (s i)) c ok;
+        value-each = λ s n. ap length (follows c s n .samples) ∙ length-map (traceAt c s n .frames .times) (machine c s n) ∙ ap (λ (f : Frames). length (f .times)) (sym (frames-are c s n));
+        index-within = λ d n t. rw (index-last d (framesAt c n .times) t (times-start c n)) (last-within (framesAt c n .times) (t - d) (times-start c n));
+      }
+
+pub net-by-net : NetByNet
+net-by-net c ok = (netwise c ok, no-default c ok)
