@@ -67,9 +67,9 @@ module _ {G N : Type 0} (faninsOf : G → List ℕ) (step : G → List N → N) 
   grow-any none other noGate nets [] first q h = refl
   grow-any none other noGate nets (g ∷ gs) first q h =
       let e : map (λ (n : ℕ). getD nets n other) (faninsOf g) ≡ map (λ (n : ℕ). getD nets n none) (faninsOf g) =
-              map-where (λ (m : ℕ). ltb m (first + 0)) (λ (n : ℕ). getD nets n other) (λ (n : ℕ). getD nets n none)
-              (λ m b. let l : m < first + 0 = ltb-true m (first + 0) b in getD-any nets m other none (omega arith))
-              (faninsOf g) (h 0 (omega arith)) in
+      map-where (λ (m : ℕ). ltb m (first + 0)) (λ (n : ℕ). getD nets n other) (λ (n : ℕ). getD nets n none)
+      (λ m b. let l : m < first + 0 = ltb-true m (first + 0) b in getD-any nets m other none (omega arith))
+      (faninsOf g) (h 0 (omega arith)) in
       ap (λ (l : List N). grow faninsOf other step (nets ++ (step g l ∷ [])) gs) e
       ∙ grow-any none other noGate (with none nets g) gs (first + 1) (rw (with-length none nets g) (omega arith))
       (λ j l. rw (let p : first + 1 + j ≡ first + suc j = omega arith in p) (h (suc j) (omega arith)))

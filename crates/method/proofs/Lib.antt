@@ -6,7 +6,12 @@ pub mod Waves
 pub mod Filtering
 pub mod Following
 pub mod Planned
+pub mod Tracing
 pub mod Counting
 pub mod Agreement
 pub mod Netwise
+pub mod Bits
+pub mod WordGates
+pub mod WordTraces
+pub mod Lanes
 pub mod Bench

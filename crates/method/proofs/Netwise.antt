@@ -5,7 +5,7 @@ use mathlib.Core.Path.{_≡_, refl, sym, ap, _∙_, fun-ext}
 use mathlib.Core.Bool.{Bool, true, false, cond}
 use mathlib.Core.List.{List, [], _∷_, map, zipWith, map-map}
 use native.Mathlib.Omega.{arith}
-use lib.ListN.{length, getD, length-map}
+use lib.ListN.{length, getD}
 use Rattle.lists.specs.Tables.{tabulate}
 use Rattle.lists.specs.Grow.{grow}
 use Rattle.lists.proofs.Tabled.{from-length, tabulate-at}
@@ -22,8 +22,8 @@ use Rattle.method.specs.Traces.{Trace, inputTrace, rawValue, traceWith, 
 use Rattle.method.specs.Machine.{Wave, inputWave, rawWave, outWave, gateWave, noWave, settled, waves, machine}
 use Rattle.method.specs.Netwise.{faninTimesOf, rawOf, machineRaw, Netwise, NoDefault, NetByNet}
 use Rattle.method.proofs.Lasting.{last-within, index-last}
-use Rattle.method.proofs.Following.{follows}
 use Rattle.method.proofs.Planned.{frames-are, times-start}
+use Rattle.method.proofs.Tracing.{value-each}
 
 -- ---- one law for all three folds
 
@@ -154,7 +154,7 @@ module _ (c : Circuit) where
         any-frames = any-net noFrames gateFrames (λ (i : ℕ). inputFrames) c ok;
         any-trace = λ s. any-net noTrace gateTrace (λ (i : ℕ). inputTrace (s i)) c ok;
         any-wave = λ s. any-net noWave gateWave (λ (i : ℕ). inputWave (s i)) c ok;
-        value-each = λ s n. ap length (follows c s n .samples) ∙ length-map (traceAt c s n .frames .times) (machine c s n) ∙ ap (λ (f : Frames). length (f .times)) (sym (frames-are c s n));
+        value-each = value-each c;
         index-within = λ d n t. rw (index-last d (framesAt c n .times) t (times-start c n)) (last-within (framesAt c n .times) (t - d) (times-start c n));
       }
 

@@ -28,20 +28,15 @@ changedTimes w (suc t) = cond (Bool·beq (w (suc t)) (w t)) (changedTimes w t) (
 pub record Agreement : Type 0 where
   -- the level by the frames is the machine's
   pub level-is-machine : (c : Circuit) (s : Stimuli) (n t : ℕ) → levelAt c s n t ≡ machine c s n t
-
   -- from time 1 on, the level changes only at a potential time
   pub changes-at-times : (c : Circuit) (s : Stimuli) (n t : ℕ) → levelAt c s n (suc t) ≢ levelAt c s n t → potential c n (suc t) ≡ true
-
   -- the count of changes is the number of times t from 1 on at which the machine's level differs from that at t - 1:
   -- of those up to any end that no potential time lies beyond, and beyond it nothing changes
   pub count-is-machine : (c : Circuit) (s : Stimuli) (n end : ℕ) → ((t : ℕ) → potential c n t ≡ true → t ≤ end)
       → changes (traceAt c s n .values) ≡ changedTimes (machine c s n) end
-
   -- no pattern bit enters the frames
   pub frames-alone : (c : Circuit) (s : Stimuli) (n : ℕ) → traceAt c s n .frames ≡ framesAt c n
-
   -- a net's times start at 0 and strictly rise
   pub times-rise : (c : Circuit) (n : ℕ) → startAndRise (framesAt c n .times) ≡ true
-
   -- no potential time is above 1 plus the greatest transport delay for each gate up to net n: there are n + 1 - I of them
   pub times-bounded : (c : Circuit) (most : ℕ) → DelaysUpTo most c → (n t : ℕ) → potential c n t ≡ true → t ≤ 1 + most * (n + 1 - c .inputs)

@@ -29,17 +29,14 @@ pub record Lanes : Type 0 where
   -- bit L of a packed word is the bit that was packed, and a word is determined by its 64 lanes
   pub packed-bit : (f : ℕ → Bool) (L : ℕ) → L < lanes → lane L (pack lanes f) ≡ f L
   pub by-lanes : (a b : ℕ) → a < 2 ^ lanes → b < 2 ^ lanes → ((L : ℕ) → L < lanes → lane L a ≡ lane L b) → a ≡ b
-
   -- the packed values of a net have in lane L the values of that lane's own trace
   pub own-values : (c : Circuit) (before after : List ℕ) (L : ℕ) → L < lanes → (n : ℕ)
       → map (lane L) (packedValues c before after n) ≡ traceAt c (laneOf L before after) n .values
-
   -- so the level is that of the machine run for that lane's pattern pair by itself, and the count that of its changes
   pub level-is-machine : (c : Circuit) (before after : List ℕ) (L : ℕ) → L < lanes → (n t : ℕ)
       → laneLevel L c before after n t ≡ machine c (laneOf L before after) n t
   pub count-is-machine : (c : Circuit) (before after : List ℕ) (L : ℕ) → L < lanes → (n end : ℕ) → ((t : ℕ) → potential c n t ≡ true → t ≤ end)
       → laneCount L c before after n ≡ changedTimes (machine c (laneOf L before after) n) end
-
   -- and two runs whose words agree in lane L are alike there
   pub same-level : (c : Circuit) (before after before′ after′ : List ℕ) (L : ℕ) → L < lanes
       → AgreeIn L (c .inputs) before before′ → AgreeIn L (c .inputs) after after′

@@ -43,13 +43,11 @@ pub record Netwise (c : Circuit) : Type 0 where
   pub frames-count : length (frames c) ≡ c .inputs + length (c .gates)
   pub traces-count : (s : Stimuli) → length (traces c s) ≡ c .inputs + length (c .gates)
   pub waves-count : (s : Stimuli) → length (waves c s) ≡ c .inputs + length (c .gates)
-
   -- input i
   pub input-frames : (i : ℕ) → i < c .inputs → framesAt c i ≡ inputFrames
   pub input-values : (s : Stimuli) (i : ℕ) → i < c .inputs → traceAt c s i .values ≡ s i .before ∷ s i .after ∷ []
   pub input-first : (s : Stimuli) (i : ℕ) → i < c .inputs → machine c s i 0 ≡ s i .before
   pub input-later : (s : Stimuli) (i t : ℕ) → i < c .inputs → machine c s i (suc t) ≡ s i .after
-
   -- the frames of gate j: times, inertial indices, fan-in rows
   pub gate-times : (j : ℕ) → j < length (c .gates) → framesAt c (c .inputs + j) .times ≡ gateTimes (gateAt c j .delay) (faninTimesOf c j)
   pub gate-inertial : (j : ℕ) → j < length (c .gates)
@@ -57,11 +55,9 @@ pub record Netwise (c : Circuit) : Type 0 where
   pub gate-rows : (j : ℕ) → j < length (c .gates)
       → framesAt c (c .inputs + j) .rows
       ≡ map (λ (t : ℕ). map (λ (ss : List ℕ). faninIndex (gateAt c j .delay) ss t) (faninTimesOf c j)) (framesAt c (c .inputs + j) .times)
-
   -- its values: its raw values, filtered
   pub gate-values : (s : Stimuli) (j : ℕ) → j < length (c .gates)
       → traceAt c s (c .inputs + j) .values ≡ filtered (framesAt c (c .inputs + j) .inertial) (map (rawOf c j s) (framesAt c (c .inputs + j) .times))
-
   -- the machine's out(0) = raw(0), and out(t) = raw(t) if raw is equal at every time from t to t + di, else out(t - 1)
   pub gate-first : (s : Stimuli) (j : ℕ) → j < length (c .gates) → machine c s (c .inputs + j) 0 ≡ machineRaw c j s 0
   pub gate-later : (s : Stimuli) (j t : ℕ) → j < length (c .gates)
@@ -77,7 +73,6 @@ pub record NoDefault (c : Circuit) : Type 0 where
       → grow (λ (g : Gate). g .fanins) other gateTrace (tabulate (c .inputs) (λ (i : ℕ). inputTrace (s i))) (c .gates) ≡ traces c s
   pub any-wave : (s : Stimuli) (other : Wave)
       → grow (λ (g : Gate). g .fanins) other gateWave (tabulate (c .inputs) (λ (i : ℕ). inputWave (s i))) (c .gates) ≡ waves c s
-
   -- each frame has one value, and a fan-in index names a frame of the fan-in
   pub value-each : (s : Stimuli) (n : ℕ) → length (traceAt c s n .values) ≡ length (framesAt c n .times)
   pub index-within : (d n t : ℕ) → faninIndex d (framesAt c n .times) t < length (framesAt c n .times)

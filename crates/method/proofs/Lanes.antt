@@ -1,0 +1,69 @@
+-- In every lane a packed run is that lane's own run: its words were packed from the lanes, and a lane's trace is made from
+-- that lane's bits of the words alone.
+-- Assumes nothing.
+use Prim.Native.Nat.{ℕ, _<_, _≤_}
+use mathlib.Core.Path.{_≡_, sym, ap, ap₂, _∙_}
+use mathlib.Core.Bool.{Bool, true, false}
+use mathlib.Core.List.{List, map}
+use native.Mathlib.Omega.{arith}
+use lib.ListN.{length, getD, length-map}
+use lib.Seq.{ext-getD}
+use Rattle.lists.specs.Tables.{tabulate}
+use Rattle.lists.specs.Grow.{grow}
+use Rattle.lists.proofs.Tabled.{from-length, from-ext, tabulate-at}
+use Rattle.method.specs.Circuit.{Gate, Circuit}
+use Rattle.method.specs.Stimulus.{Stimulus, Stimuli}
+use Rattle.method.specs.Frames.{framesAt}
+use Rattle.method.specs.Traces.{Trace, inputTrace, gateTrace, noTrace, traces, traceAt}
+use Rattle.method.specs.Look.{level, changes}
+use Rattle.method.specs.Machine.{machine}
+use Rattle.method.specs.Words.{lanes, lane}
+use Rattle.method.specs.Packed.{laneOf, packedWord, packedValues}
+use Rattle.method.specs.Agreement.{potential, changedTimes}
+use Rattle.method.specs.Lanes.{laneLevel, laneCount, AgreeIn, Lanes}
+use Rattle.method.proofs.Bits.{lane-ext, pack-lane}
+use Rattle.method.proofs.WordGates.{getD-lane}
+use Rattle.method.proofs.Tracing.{value-each, same-traces}
+use Rattle.method.proofs.Agreement.{agreement}
+
+module _ (c : Circuit) (before after : List ℕ) (L : ℕ) (h : L < lanes) (n : ℕ) where
+  own : map (lane L) (packedValues c before after n) ≡ traceAt c (laneOf L before after) n .values
+  unfolding packedValues packedWord
+  own =
+      let frameCount : ℕ = length (framesAt c n .times) in
+      let ws : List ℕ = tabulate frameCount (packedWord c before after n) in
+      let size : length (map (lane L) ws) ≡ frameCount = length-map ws (lane L) ∙ from-length frameCount 0 (packedWord c before after n) in
+      ext-getD false (map (lane L) ws) (traceAt c (laneOf L before after) n .values) (size ∙ sym (value-each c (laneOf L before after) n))
+      (λ k l. sym (getD-lane L ws k)
+      ∙ ap (lane L) (tabulate-at frameCount (packedWord c before after n) 0 k (rw size at l))
+      ∙ pack-lane lanes (λ (L : ℕ). getD (traceAt c (laneOf L before after) n .values) k false) L h)
+
+  level-own : (t : ℕ) → laneLevel L c before after n t ≡ machine c (laneOf L before after) n t
+  level-own t = rw own (agreement .level-is-machine c (laneOf L before after) n t)
+
+  count-own : (end : ℕ) → ((t : ℕ) → potential c n t ≡ true → t ≤ end) → laneCount L c before after n ≡ changedTimes (machine c (laneOf L before after) n) end
+  count-own end k = rw own (agreement .count-is-machine c (laneOf L before after) n end k)
+
+module _ (c : Circuit) (before after before′ after′ : List ℕ) (L : ℕ) (h : L < lanes)
+    (b : AgreeIn L (c .inputs) before before′) (a : AgreeIn L (c .inputs) after after′) (n : ℕ) where
+  same-pair : (i : ℕ) → i < c .inputs → laneOf L before after i ≡ laneOf L before′ after′ i
+  same-pair i l = rw (b i l, a i l)
+
+  alike : map (lane L) (packedValues c before after n) ≡ map (lane L) (packedValues c before′ after′ n)
+  alike =
+      own c before after L h n
+      ∙ ap (λ (ns : List Trace). getD ns n noTrace .values)
+      (same-traces c (laneOf L before after) (laneOf L before′ after′) same-pair)
+      ∙ sym (own c before′ after′ L h n)
+
+pub in-lanes : Lanes
+in-lanes =
+    record {
+      packed-bit = λ f L h. pack-lane lanes f L h;
+      by-lanes = λ a b x y f. lane-ext lanes a b x y f;
+      own-values = own;
+      level-is-machine = level-own;
+      count-is-machine = count-own;
+      same-level = λ c before after before′ after′ L h b a n t. ap (λ (vs : List Bool). level (framesAt c n .times) vs t) (alike c before after before′ after′ L h b a n);
+      same-count = λ c before after before′ after′ L h b a n. ap changes (alike c before after before′ after′ L h b a n);
+    }
