@@ -3,7 +3,6 @@
 -- Assumes nothing.
 use Prim.Native.Nat.{ℕ, zero, suc, _+_, _≤_, _<_}
 use mathlib.Core.Path.{_≡_, refl, sym, ap, ap₂, _∙_}
-use mathlib.Core.Logic.{_⊎_, inl, inr}
 use mathlib.Core.Bool.{Bool, true}
 use mathlib.Core.List.{List, [], _∷_, _++_, map}
 use native.Mathlib.Omega.{arith}
@@ -13,7 +12,7 @@ use lib.Dec.{ltb}
 use borrow.Author.Tests.{ltb-true}
 use Rattle.lists.specs.Tables.{every}
 use Rattle.lists.specs.Grow.{grow}
-use Rattle.lists.proofs.Choices.{Tri, less, same, more, tri, and-left, and-right}
+use Rattle.lists.proofs.Choices.{less, same, more, tri, and-left, and-right}
 use Rattle.lists.proofs.Growing.{grow-before}
 
 -- an entry that is there is the same whatever stands for a missing one

@@ -3,15 +3,14 @@
 -- Assumes nothing.
 use Prim.Native.Nat.{ℕ, zero, suc, _+_, _-_, zero-le}
 use mathlib.Core.Path.{_≡_, refl, sym, ap, ap₂, _∙_, fun-ext}
-use mathlib.Core.Logic.{_⊎_, inl, inr}
-use mathlib.Core.Bool.{Bool, true, false, true≢false}
-use mathlib.Core.List.{List, [], _∷_, map, flatMap, zipWith, map-map}
+use mathlib.Core.Logic.{inl, inr}
+use mathlib.Core.Bool.{Bool, false, true≢false}
+use mathlib.Core.List.{List, _∷_, map, flatMap, zipWith, map-map}
 use native.Mathlib.Omega.{arith}
 use lib.Dec.{eqb}
 use lib.ListN.{getD}
 use Rattle.lists.proofs.Choices.{order, or-left, or-right}
 use Rattle.lists.proofs.Growing.{All2, none, both, all2-at, all2-from, grow-rel}
-use Rattle.method.specs.declared.Kind.{Kind}
 use Rattle.method.specs.Kinds.{gateFn}
 use Rattle.method.specs.Circuit.{Gate, Circuit}
 use Rattle.method.specs.Stimulus.{Stimulus, Stimuli}

@@ -2,19 +2,16 @@
 -- that lane's bits of the words alone.
 -- Assumes nothing.
 use Prim.Native.Nat.{ℕ, _<_, _≤_}
-use mathlib.Core.Path.{_≡_, sym, ap, ap₂, _∙_}
+use mathlib.Core.Path.{_≡_, sym, ap, _∙_}
 use mathlib.Core.Bool.{Bool, true, false}
 use mathlib.Core.List.{List, map}
-use native.Mathlib.Omega.{arith}
 use lib.ListN.{length, getD, length-map}
 use lib.Seq.{ext-getD}
 use Rattle.lists.specs.Tables.{tabulate}
-use Rattle.lists.specs.Grow.{grow}
-use Rattle.lists.proofs.Tabled.{from-length, from-ext, tabulate-at}
-use Rattle.method.specs.Circuit.{Gate, Circuit}
-use Rattle.method.specs.Stimulus.{Stimulus, Stimuli}
+use Rattle.lists.proofs.Tabled.{from-length, tabulate-at}
+use Rattle.method.specs.Circuit.{Circuit}
 use Rattle.method.specs.Frames.{framesAt}
-use Rattle.method.specs.Traces.{Trace, inputTrace, gateTrace, noTrace, traces, traceAt}
+use Rattle.method.specs.Traces.{Trace, noTrace, traceAt}
 use Rattle.method.specs.Look.{level, changes}
 use Rattle.method.specs.Machine.{machine}
 use Rattle.method.specs.Words.{lanes, lane}

@@ -2,9 +2,8 @@
 -- Assumes nothing.
 use Prim.Native.Nat.{ℕ, suc, _+_, _-_, _<_}
 use mathlib.Core.Path.{_≡_, refl, sym, ap, _∙_, fun-ext}
-use mathlib.Core.Bool.{Bool, true, false, cond}
+use mathlib.Core.Bool.{Bool, false, cond}
 use mathlib.Core.List.{List, [], _∷_, map, zipWith, map-map}
-use native.Mathlib.Omega.{arith}
 use lib.ListN.{length, getD}
 use Rattle.lists.specs.Tables.{tabulate}
 use Rattle.lists.specs.Grow.{grow}
@@ -19,7 +18,7 @@ use Rattle.method.specs.Indices.{faninIndex}
 use Rattle.method.specs.Frames.{Frames, inputFrames, faninRow, framesWith, gateFrames, noFrames, frames, framesAt}
 use Rattle.method.specs.Filter.{filtered}
 use Rattle.method.specs.Traces.{Trace, inputTrace, rawValue, traceWith, gateTrace, noTrace, traces, traceAt}
-use Rattle.method.specs.Machine.{Wave, inputWave, rawWave, outWave, gateWave, noWave, settled, waves, machine}
+use Rattle.method.specs.Machine.{Wave, inputWave, outWave, gateWave, noWave, settled, waves, machine}
 use Rattle.method.specs.Netwise.{faninTimesOf, rawOf, machineRaw, Netwise, NoDefault, NetByNet}
 use Rattle.method.proofs.Lasting.{last-within, index-last}
 use Rattle.method.proofs.Planned.{frames-are, times-start}

@@ -17,11 +17,11 @@ use Rattle.lists.proofs.Growing.{All2, none, both, all2-at, all2-from, grow-rel
 use Rattle.lists.proofs.ByNumber.{grow-each}
 use Rattle.method.specs.Circuit.{Gate, Circuit, noGate, DelaysUpTo}
 use Rattle.method.specs.Stimulus.{Stimuli}
-use Rattle.method.specs.Times.{inputTimes, shifted, rising, gateTimes, among}
+use Rattle.method.specs.Times.{shifted, rising, gateTimes, among}
 use Rattle.method.specs.Frames.{Frames, inputFrames, framesWith, gateFrames, noFrames, frames, framesAt}
 use Rattle.method.specs.Traces.{Trace, inputTrace, traceWith, gateTrace, noTrace, traces, traceAt}
 use Rattle.method.proofs.Rising.{Starts, rising-among, among-append}
-use Rattle.method.proofs.Following.{Follows, follows}
+use Rattle.method.proofs.Following.{follows}
 
 -- ---- the frames of a trace are the circuit's
 

@@ -2,14 +2,14 @@
 -- Assumes nothing.
 use Prim.Native.Nat.{ℕ, zero, suc, _+_, _≤_, _<_}
 use mathlib.Core.Path.{_≡_, refl, sym, ap₂, _∙_}
-use mathlib.Core.Logic.{_⊎_, inl, inr}
+use mathlib.Core.Logic.{inl, inr}
 use mathlib.Core.Bool.{Bool, true, false, _||_, true≢false, false≢true, or-self-left, or-assoc}
 use mathlib.Core.List.{List, [], _∷_, _++_, map, flatMap}
 use native.Mathlib.Omega.{arith}
 use lib.Dec.{ltb, eqb, eqb·suc-zero}
 use borrow.Author.Tests.{lt-ltb, le-ltb, ltb-true, eq-eqb, ne-eqb, eqb-true, eqb-false}
 use Rattle.lists.specs.Tables.{some}
-use Rattle.lists.proofs.Choices.{either, Tri, less, same, more, tri, and-left, and-right}
+use Rattle.lists.proofs.Choices.{either, less, same, more, tri, and-left, and-right}
 use Rattle.method.specs.Times.{insert, rising, shifted, gateTimes, among, riseAbove, startAndRise}
 
 -- ---- rising lists, as a type to take apart

@@ -2,7 +2,7 @@
 -- Assumes nothing.
 use Prim.Native.Nat.{ℕ, zero, suc, _+_, _-_, _^_, _<_}
 use mathlib.Core.Path.{_≡_, refl, sym, ap, _∙_}
-use mathlib.Core.Logic.{_⊎_, inl, inr}
+use mathlib.Core.Logic.{inl, inr}
 use mathlib.Core.Bool.{Bool, true, false, not, cond, _&&_, _||_, Bool·beq, or-false, and-false}
 use mathlib.Core.List.{List, [], _∷_, map}
 use native.Mathlib.Omega.{arith}
@@ -60,59 +60,6 @@ select mask v r = bitXor r (bitAnd (bitXor r v) mask)
 
 abbrev pub keepWord : ℕ → ℕ → List ℕ → ℕ
 keepWord v r following = select (differs r following) v r
-
--- ---- sizes: a word has 64 bits
-
-abbrev pub Word : ℕ → Type 0
-Word w = w < 2 ^ lanes
-
-abbrev pub Words : List ℕ → Type 0
-Words [] = Unit {0}
-Words (w ∷ ws) = Word w × Words ws
-
-pub words-of : (ws : List ℕ) → ((i : ℕ) → Word (getD ws i 0)) → Words ws
-words-of [] h = tt
-words-of (w ∷ ws) h = (h 0, words-of ws (λ i. h (suc i)))
-
-pub getD-word : (ws : List ℕ) → Words ws → (i : ℕ) → Word (getD ws i 0)
-getD-word [] h i = lit< tt
-getD-word (w ∷ ws) h zero = h .0
-getD-word (w ∷ ws) h (suc i) = getD-word ws (h .1) i
-
-not-word : (w : ℕ) → Word (notWord w)
-not-word w = ones-sub-lt lanes w
-
-pub andAll-word : (ws : List ℕ) → Words ws → Word (andAll ws)
-andAll-word [] h = lit< tt
-andAll-word (w ∷ ws) h = and-lt lanes w (andAll ws) (h .0) (andAll-word ws (h .1))
-
-pub orAll-word : (ws : List ℕ) → Words ws → Word (orAll ws)
-orAll-word [] h = lit< tt
-orAll-word (w ∷ ws) h = or-lt lanes w (orAll ws) (h .0) (orAll-word ws (h .1))
-
-pub exactlyOne-word : (one more : ℕ) (ws : List ℕ) → Word one → Word more → Words ws → Word (exactlyOne one more ws)
-exactlyOne-word one more [] a b h = xor-lt lanes one more a b
-exactlyOne-word one more (w ∷ ws) a b h =
-    exactlyOne-word (bitOr one w) (bitOr more (bitAnd one w)) ws (or-lt lanes one w a (h .0)) (or-lt lanes more (bitAnd one w) b (and-lt lanes one w a (h .0))) (h .1)
-
-pub wordFn-word : (k : Kind) (ws : List ℕ) → Words ws → Word (wordFn k ws)
-unfolding wordFn
-wordFn-word Buf ws h = getD-word ws h 0
-wordFn-word Not ws h = not-word (getD ws 0 0)
-wordFn-word And ws h = andAll-word ws h
-wordFn-word Nand ws h = not-word (andAll ws)
-wordFn-word Or ws h = orAll-word ws h
-wordFn-word Nor ws h = not-word (orAll ws)
-wordFn-word Xor ws h = exactlyOne-word 0 0 ws (lit< tt) (lit< tt) h
-wordFn-word Xnor ws h = not-word (exactlyOne 0 0 ws)
-
-pub differs-word : (r : ℕ) (ws : List ℕ) → Word r → Words ws → Word (differs r ws)
-differs-word r [] a h = lit< tt
-differs-word r (w ∷ ws) a h = or-lt lanes (bitXor w r) (differs r ws) (xor-lt lanes w r (h .0) a) (differs-word r ws a (h .1))
-
-pub keepWord-word : (v r : ℕ) (ws : List ℕ) → Word v → Word r → Words ws → Word (keepWord v r ws)
-keepWord-word v r ws a b h =
-    xor-lt lanes r (bitAnd (bitXor r v) (differs r ws)) b (and-lt lanes (bitXor r v) (differs r ws) (xor-lt lanes r v b a) (differs-word r ws b h))
 
 -- ---- lane by lane
 
@@ -175,22 +122,77 @@ module _ (L : ℕ) where
       xor-lane L r (bitAnd (bitXor r v) (differs r ws))
       ∙ rw (and-lane L (bitXor r v) (differs r ws), xor-lane L r v, differs-lane r ws) (select-bit (lane L v) (lane L r) (allSame (lane L r) (map (lane L) ws)))
 
-  module _ (h : L < lanes) where
-    pub notWord-lane : (w : ℕ) → Word w → lane L (notWord w) ≡ not (lane L w)
-    notWord-lane w = not-lane lanes L w h
+-- ---- sizes: a word has 64 bits
 
-    pub andAll-lane : (ws : List ℕ) → lane L (andAll ws) ≡ every (map (lane L) ws)
-    andAll-lane [] = notWord-lane 0 (lit< tt) ∙ ap not (zero-lane L)
-    andAll-lane (w ∷ ws) = and-lane L w (andAll ws) ∙ ap (λ (b : Bool). lane L w && b) (andAll-lane ws)
+abbrev pub Word : ℕ → Type 0
+Word w = w < 2 ^ lanes
 
-    -- every kind of gate
-    pub wordFn-lane : (k : Kind) (ws : List ℕ) → Words ws → lane L (wordFn k ws) ≡ gateFn k (map (lane L) ws)
-    unfolding wordFn gateFn
-    wordFn-lane Buf ws s = getD-lane ws 0
-    wordFn-lane Not ws s = notWord-lane (getD ws 0 0) (getD-word ws s 0) ∙ ap not (getD-lane ws 0)
-    wordFn-lane And ws s = andAll-lane ws
-    wordFn-lane Nand ws s = notWord-lane (andAll ws) (andAll-word ws s) ∙ ap not (andAll-lane ws)
-    wordFn-lane Or ws s = orAll-lane ws
-    wordFn-lane Nor ws s = notWord-lane (orAll ws) (orAll-word ws s) ∙ ap not (orAll-lane ws)
-    wordFn-lane Xor ws s = exactlyOne-lane ws
-    wordFn-lane Xnor ws s = notWord-lane (exactlyOne 0 0 ws) (exactlyOne-word 0 0 ws (lit< tt) (lit< tt) s) ∙ ap not (exactlyOne-lane ws)
+abbrev pub Words : List ℕ → Type 0
+Words [] = Unit {0}
+Words (w ∷ ws) = Word w × Words ws
+
+pub words-of : (ws : List ℕ) → ((i : ℕ) → Word (getD ws i 0)) → Words ws
+words-of [] h = tt
+words-of (w ∷ ws) h = (h 0, words-of ws (λ i. h (suc i)))
+
+pub getD-word : (ws : List ℕ) → Words ws → (i : ℕ) → Word (getD ws i 0)
+getD-word [] h i = lit< tt
+getD-word (w ∷ ws) h zero = h .0
+getD-word (w ∷ ws) h (suc i) = getD-word ws (h .1) i
+
+not-word : (w : ℕ) → Word (notWord w)
+not-word w = ones-sub-lt lanes w
+
+pub andAll-word : (ws : List ℕ) → Words ws → Word (andAll ws)
+andAll-word [] h = lit< tt
+andAll-word (w ∷ ws) h = and-lt lanes w (andAll ws) (h .0) (andAll-word ws (h .1))
+
+pub orAll-word : (ws : List ℕ) → Words ws → Word (orAll ws)
+orAll-word [] h = lit< tt
+orAll-word (w ∷ ws) h = or-lt lanes w (orAll ws) (h .0) (orAll-word ws (h .1))
+
+pub exactlyOne-word : (one more : ℕ) (ws : List ℕ) → Word one → Word more → Words ws → Word (exactlyOne one more ws)
+exactlyOne-word one more [] a b h = xor-lt lanes one more a b
+exactlyOne-word one more (w ∷ ws) a b h =
+    exactlyOne-word (bitOr one w) (bitOr more (bitAnd one w)) ws (or-lt lanes one w a (h .0)) (or-lt lanes more (bitAnd one w) b (and-lt lanes one w a (h .0))) (h .1)
+
+pub wordFn-word : (k : Kind) (ws : List ℕ) → Words ws → Word (wordFn k ws)
+unfolding wordFn
+wordFn-word Buf ws h = getD-word ws h 0
+wordFn-word Not ws h = not-word (getD ws 0 0)
+wordFn-word And ws h = andAll-word ws h
+wordFn-word Nand ws h = not-word (andAll ws)
+wordFn-word Or ws h = orAll-word ws h
+wordFn-word Nor ws h = not-word (orAll ws)
+wordFn-word Xor ws h = exactlyOne-word 0 0 ws (lit< tt) (lit< tt) h
+wordFn-word Xnor ws h = not-word (exactlyOne 0 0 ws)
+
+pub differs-word : (r : ℕ) (ws : List ℕ) → Word r → Words ws → Word (differs r ws)
+differs-word r [] a h = lit< tt
+differs-word r (w ∷ ws) a h = or-lt lanes (bitXor w r) (differs r ws) (xor-lt lanes w r (h .0) a) (differs-word r ws a (h .1))
+
+pub keepWord-word : (v r : ℕ) (ws : List ℕ) → Word v → Word r → Words ws → Word (keepWord v r ws)
+keepWord-word v r ws a b h =
+    xor-lt lanes r (bitAnd (bitXor r v) (differs r ws)) b (and-lt lanes (bitXor r v) (differs r ws) (xor-lt lanes r v b a) (differs-word r ws b h))
+
+-- ---- each kind, lane by lane: complements need the size
+
+module _ (L : ℕ) (h : L < lanes) where
+  pub notWord-lane : (w : ℕ) → Word w → lane L (notWord w) ≡ not (lane L w)
+  notWord-lane w = not-lane lanes L w h
+
+  pub andAll-lane : (ws : List ℕ) → lane L (andAll ws) ≡ every (map (lane L) ws)
+  andAll-lane [] = notWord-lane 0 (lit< tt) ∙ ap not (zero-lane L)
+  andAll-lane (w ∷ ws) = and-lane L w (andAll ws) ∙ ap (λ (b : Bool). lane L w && b) (andAll-lane ws)
+
+  -- every kind of gate
+  pub wordFn-lane : (k : Kind) (ws : List ℕ) → Words ws → lane L (wordFn k ws) ≡ gateFn k (map (lane L) ws)
+  unfolding wordFn gateFn
+  wordFn-lane Buf ws s = getD-lane L ws 0
+  wordFn-lane Not ws s = notWord-lane (getD ws 0 0) (getD-word ws s 0) ∙ ap not (getD-lane L ws 0)
+  wordFn-lane And ws s = andAll-lane ws
+  wordFn-lane Nand ws s = notWord-lane (andAll ws) (andAll-word ws s) ∙ ap not (andAll-lane ws)
+  wordFn-lane Or ws s = orAll-lane L ws
+  wordFn-lane Nor ws s = notWord-lane (orAll ws) (orAll-word ws s) ∙ ap not (orAll-lane L ws)
+  wordFn-lane Xor ws s = exactlyOne-lane L ws
+  wordFn-lane Xnor ws s = notWord-lane (exactlyOne 0 0 ws) (exactlyOne-word 0 0 ws (lit< tt) (lit< tt) s) ∙ ap not (exactlyOne-lane L ws)

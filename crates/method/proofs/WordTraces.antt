@@ -13,7 +13,7 @@ use Rattle.lists.specs.Grow.{grow}
 use Rattle.lists.proofs.Tabled.{from-length, tabulate-at}
 use Rattle.lists.proofs.Growing.{All2, none, both, all2-at, all2-from, grow-rel}
 use Rattle.method.specs.declared.Kind.{Kind}
-use Rattle.method.specs.Circuit.{Gate, Circuit, NoFeedback}
+use Rattle.method.specs.Circuit.{Gate, Circuit}
 use Rattle.method.specs.Frames.{Frames, inputFrames, gateFrames, noFrames, framesAt}
 use Rattle.method.specs.Filter.{filterFrom, filtered}
 use Rattle.method.specs.Traces.{Trace, inputTrace, rawValue, traceWith, gateTrace, noTrace, traces, traceAt}

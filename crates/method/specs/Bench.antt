@@ -4,8 +4,8 @@ use mathlib.Core.Bool.{Bool, true, false}
 use mathlib.Core.List.{List, [], _∷_, map}
 use Rattle.method.specs.declared.Kind.the-variants.{Not, And, Xor}
 use Rattle.method.specs.Kinds.{gateFn}
-use Rattle.method.specs.Circuit.{Gate, Circuit}
-use Rattle.method.specs.Stimulus.{Stimulus, Stimuli}
+use Rattle.method.specs.Circuit.{Circuit}
+use Rattle.method.specs.Stimulus.{Stimuli}
 use Rattle.method.specs.Times.{gateTimes}
 use Rattle.method.specs.Indices.{inertialIndices}
 use Rattle.method.specs.Frames.{faninRow}

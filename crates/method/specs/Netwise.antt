@@ -1,7 +1,7 @@
 -- The frames, the traces and the machine as equations by net number over the finished nets of a circuit without feedback.
 -- So nothing hides behind the fold that makes the nets, nor behind what stands for a net or a frame that does not exist.
 -- `proofs/Netwise` proves these records.
-use Prim.Native.Nat.{ℕ, zero, suc, _+_, _-_, _<_}
+use Prim.Native.Nat.{ℕ, suc, _+_, _-_, _<_}
 use mathlib.Core.Path.{_≡_}
 use mathlib.Core.Bool.{Bool, false, cond}
 use mathlib.Core.List.{List, [], _∷_, map}
@@ -10,7 +10,7 @@ use Rattle.lists.specs.Tables.{tabulate}
 use Rattle.lists.specs.Grow.{grow}
 use Rattle.method.specs.Kinds.{gateFn}
 use Rattle.method.specs.Circuit.{Gate, Circuit, gateAt, NoFeedback}
-use Rattle.method.specs.Stimulus.{Stimulus, Stimuli}
+use Rattle.method.specs.Stimulus.{Stimuli}
 use Rattle.method.specs.Times.{gateTimes}
 use Rattle.method.specs.Indices.{faninIndex, inertialIndices}
 use Rattle.method.specs.Frames.{Frames, inputFrames, gateFrames, frames, framesAt}

@@ -1,11 +1,11 @@
 -- A packed run: 64 pattern pairs at once, each lane by itself.
 use Prim.Native.Nat.{ℕ}
-use mathlib.Core.Bool.{Bool, false}
+use mathlib.Core.Bool.{false}
 use mathlib.Core.List.{List}
 use lib.ListN.{length, getD}
 use Rattle.lists.specs.Tables.{tabulate}
 use Rattle.method.specs.Circuit.{Circuit}
-use Rattle.method.specs.Stimulus.{Stimulus, Stimuli}
+use Rattle.method.specs.Stimulus.{Stimuli}
 use Rattle.method.specs.Frames.{framesAt}
 use Rattle.method.specs.Traces.{traceAt}
 use Rattle.method.specs.Words.{lanes, lane, pack}

@@ -1,0 +1,41 @@
+-- What the limits of a circuit give the method: no feedback, and potential times that fit into two bytes.
+-- Assumes nothing.
+use Prim.Native.Nat.{ℕ, zero, suc, _+_, _-_, _*_, _≤_, _<_}
+use mathlib.Core.Path.{_≡_, refl}
+use mathlib.Core.Bool.{true}
+use mathlib.Core.List.{List, [], _∷_}
+use native.Mathlib.Omega.{arith}
+use native.Mathlib.Nat.{mul-le-mul-left}
+use lib.ListN.{length, getD}
+use Rattle.method.specs.Circuit.{Gate, Circuit, noGate, gateAt, NoFeedback, DelaysUpTo}
+use Rattle.method.specs.Agreement.{potential}
+use Rattle.method.proofs.Agreement.{agreement}
+use Rattle.circuit.specs.Limits.{mostGates, mostDelay, GateWithin, GatesWithin, Within}
+
+-- gate j, which drives net + j
+gate-at : (net : ℕ) (gs : List Gate) → GatesWithin net gs → (j own : ℕ) → own ≡ net + j → j < length gs → GateWithin own (getD gs j noGate)
+gate-at net [] w j own e h = absurd (omega arith)
+gate-at net (g ∷ gs) w zero own e h = rw (let q : own ≡ net = omega arith in q) (w .0)
+gate-at net (g ∷ gs) w (suc j) own e h = gate-at (suc net) gs (w .1) j own (omega arith) (omega arith)
+
+module _ (c : Circuit) (w : Within c) where
+  within-at : (j : ℕ) → j < length (c .gates) → GateWithin (c .inputs + j) (gateAt c j)
+  within-at j h = gate-at (c .inputs) (c .gates) (w .gates-within) j (c .inputs + j) refl h
+
+  pub no-feedback : NoFeedback c
+  no-feedback j h = within-at j h .below
+
+  pub delays-most : DelaysUpTo mostDelay c
+  delays-most j h = within-at j h .delay-most
+
+  -- 63 for each gate up to the net
+  pub time-most : (n t : ℕ) → potential c n t ≡ true → t ≤ 1 + mostDelay * (n + 1 - c .inputs)
+  time-most n t e = agreement .times-bounded c mostDelay delays-most n t e
+
+  -- and there are at most 128 gates, so two bytes suffice
+  pub time-small : (n t : ℕ) → n < c .inputs + length (c .gates) → potential c n t ≡ true → t < 65536
+  time-small n t h e =
+      let few : n + 1 - c .inputs ≤ mostGates = omega (arith, w .gates-most) in
+      let most : mostDelay * (n + 1 - c .inputs) ≤ mostDelay * mostGates = mul-le-mul-left mostDelay few in
+      let last : t ≤ 1 + mostDelay * (n + 1 - c .inputs) = time-most n t e in
+      omega arith
