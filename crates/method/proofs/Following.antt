@@ -10,7 +10,7 @@ use native.Mathlib.Omega.{arith}
 use lib.Dec.{eqb}
 use lib.ListN.{getD}
 use Rattle.lists.proofs.Choices.{order, or-left, or-right}
-use Rattle.lists.proofs.Growing.{All2, none, both, all2-at, all2-from, grow-rel}
+use Rattle.lists.proofs.Growing.{All2, none, both}
 use Rattle.method.specs.Kinds.{gateFn}
 use Rattle.method.specs.Circuit.{Gate, Circuit}
 use Rattle.method.specs.Stimulus.{Stimulus, Stimuli}
@@ -21,6 +21,7 @@ use Rattle.method.specs.Filter.{filtered}
 use Rattle.method.specs.Traces.{Trace, inputTrace, rawValue, traceWith, gateTrace, noTrace, traces, traceAt}
 use Rattle.method.specs.Look.{level}
 use Rattle.method.specs.Machine.{Wave, inputWave, rawWave, outWave, gateWave, noWave, waves, machine}
+use Rattle.method.proofs.Nets.{nets-rel}
 use Rattle.method.proofs.Rising.{Starts, rising-among, amongSome, all-shifted-among, gateTimes-start}
 use Rattle.method.proofs.Lasting.{index-last}
 use Rattle.method.proofs.Waves.{Steady, level-sample}
@@ -114,11 +115,6 @@ pub none-follows : Follows noTrace noWave
 none-follows = record { starts = (refl, tt); steady = λ u h e. refl; samples = refl }
 
 module _ (c : Circuit) (s : Stimuli) where
-  all-follow : All2 Follows (traces c s) (waves c s)
-  unfolding traces waves
-  all-follow =
-      grow-rel Follows (λ (g : Gate). g .fanins) noTrace gateTrace noWave gateWave none-follows gate-follows
-      (all2-from Follows (λ (i : ℕ). inputTrace (s i)) (λ (i : ℕ). inputWave (s i)) (λ i. input-follows (s i)) (c .inputs) 0) (c .gates)
-
   pub follows : (n : ℕ) → Follows (traceAt c s n) (machine c s n)
-  follows n = all2-at Follows noTrace noWave none-follows all-follow n
+  unfolding traces waves
+  follows = nets-rel Follows none-follows gate-follows (λ i. input-follows (s i)) c

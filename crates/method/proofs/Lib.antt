@@ -1,5 +1,6 @@
 -- Laws on circuits, frames, waves and words; every crate above cites them.
 pub mod Taking
+pub mod Nets
 pub mod Rising
 pub mod Lasting
 pub mod Waves

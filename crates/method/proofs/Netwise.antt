@@ -5,13 +5,8 @@ use mathlib.Core.Path.{_≡_, refl, sym, ap, _∙_, fun-ext}
 use mathlib.Core.Bool.{Bool, false, cond}
 use mathlib.Core.List.{List, [], _∷_, map, zipWith, map-map}
 use lib.ListN.{length, getD}
-use Rattle.lists.specs.Tables.{tabulate}
-use Rattle.lists.specs.Grow.{grow}
-use Rattle.lists.proofs.Tabled.{from-length, tabulate-at}
-use Rattle.lists.proofs.Growing.{grow-length, grow-before}
-use Rattle.lists.proofs.ByNumber.{grow-at, grow-any}
 use Rattle.method.specs.Kinds.{gateFn}
-use Rattle.method.specs.Circuit.{Gate, Circuit, noGate, gateAt, allBelow, NoFeedback}
+use Rattle.method.specs.Circuit.{Circuit, gateAt, NoFeedback}
 use Rattle.method.specs.Stimulus.{Stimuli}
 use Rattle.method.specs.Times.{gateTimes}
 use Rattle.method.specs.Indices.{faninIndex}
@@ -20,35 +15,10 @@ use Rattle.method.specs.Filter.{filtered}
 use Rattle.method.specs.Traces.{Trace, inputTrace, rawValue, traceWith, gateTrace, noTrace, traces, traceAt}
 use Rattle.method.specs.Machine.{Wave, inputWave, outWave, gateWave, noWave, settled, waves, machine}
 use Rattle.method.specs.Netwise.{faninTimesOf, rawOf, machineRaw, Netwise, NoDefault, NetByNet}
+use Rattle.method.proofs.Nets.{nets-count, input-net, gate-net, any-net}
 use Rattle.method.proofs.Lasting.{last-within, index-last}
 use Rattle.method.proofs.Planned.{frames-are, times-start}
 use Rattle.method.proofs.Tracing.{value-each}
-
--- ---- one law for all three folds
-
-module _ {N : Type 0} (none : N) (step : Gate → List N → N) (input : ℕ → N) (c : Circuit) where
-  abbrev nets : List N
-  nets = grow (λ (g : Gate). g .fanins) none step (tabulate (c .inputs) input) (c .gates)
-
-  nets-count : length nets ≡ c .inputs + length (c .gates)
-  nets-count = grow-length (λ (g : Gate). g .fanins) none step (tabulate (c .inputs) input) (c .gates) ∙ rw (from-length (c .inputs) 0 input)
-
-  input-net : (i : ℕ) → i < c .inputs → getD nets i none ≡ input i
-  input-net i h =
-      grow-before (λ (g : Gate). g .fanins) none step (tabulate (c .inputs) input) (c .gates) i (rw (from-length (c .inputs) 0 input) h)
-      ∙ tabulate-at (c .inputs) input none i h
-
-  module _ (ok : NoFeedback c) where
-    gate-net : (j : ℕ) → j < length (c .gates)
-        → getD nets (c .inputs + j) none ≡ step (gateAt c j) (map (λ (m : ℕ). getD nets m none) (gateAt c j .fanins))
-    unfolding allBelow
-    gate-net j h =
-        grow-at (λ (g : Gate). g .fanins) step none noGate (tabulate (c .inputs) input) (c .gates) j (c .inputs + j) (rw (from-length (c .inputs) 0 input)) h (ok j h)
-
-    any-net : (other : N) → grow (λ (g : Gate). g .fanins) other step (tabulate (c .inputs) input) (c .gates) ≡ nets
-    unfolding allBelow
-    any-net other =
-        grow-any (λ (g : Gate). g .fanins) step none other noGate (tabulate (c .inputs) input) (c .gates) (c .inputs) (sym (from-length (c .inputs) 0 input)) ok
 
 -- ---- the frames of gate j
 

@@ -13,13 +13,14 @@ use borrow.Author.Tests.{eqb-true, eq-eqb}
 use Rattle.lists.specs.Tables.{tabulate}
 use Rattle.lists.proofs.Choices.{either, order}
 use Rattle.lists.proofs.Tabled.{from-length, tabulate-at}
-use Rattle.lists.proofs.Growing.{All2, none, both, all2-at, all2-from, grow-rel}
+use Rattle.lists.proofs.Growing.{All2, none, both}
 use Rattle.lists.proofs.ByNumber.{grow-each}
 use Rattle.method.specs.Circuit.{Gate, Circuit, noGate, DelaysUpTo}
 use Rattle.method.specs.Stimulus.{Stimuli}
 use Rattle.method.specs.Times.{shifted, rising, gateTimes, among}
 use Rattle.method.specs.Frames.{Frames, inputFrames, framesWith, gateFrames, noFrames, frames, framesAt}
 use Rattle.method.specs.Traces.{Trace, inputTrace, traceWith, gateTrace, noTrace, traces, traceAt}
+use Rattle.method.proofs.Nets.{nets-rel}
 use Rattle.method.proofs.Rising.{Starts, rising-among, among-append}
 use Rattle.method.proofs.Following.{follows}
 
@@ -39,9 +40,7 @@ gate-frames g fs ns r = ap (gateFrames g) (all-frames r)
 pub frames-are : (c : Circuit) (s : Stimuli) (n : ℕ) → framesAt c n ≡ traceAt c s n .frames
 unfolding frames traces
 frames-are c s n =
-    all2-at HasFrames noFrames noTrace refl
-    (grow-rel HasFrames (λ (g : Gate). g .fanins) noFrames gateFrames noTrace gateTrace refl gate-frames
-    (all2-from HasFrames (λ (i : ℕ). inputFrames) (λ (i : ℕ). inputTrace (s i)) (λ i. refl) (c .inputs) 0) (c .gates)) n
+    nets-rel HasFrames {b = noTrace} refl {g = gateTrace} gate-frames {j = λ (i : ℕ). inputTrace (s i)} (λ i. refl) c n
 
 -- ---- they start at 0 and rise, as those of any trace
 

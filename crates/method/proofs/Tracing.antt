@@ -2,16 +2,13 @@
 -- Assumes nothing.
 use Prim.Native.Nat.{ℕ, _<_}
 use mathlib.Core.Path.{_≡_, sym, ap, _∙_}
-use mathlib.Core.List.{List}
-use native.Mathlib.Omega.{arith}
 use lib.ListN.{length, length-map}
-use Rattle.lists.specs.Grow.{grow}
-use Rattle.lists.proofs.Tabled.{from-ext}
-use Rattle.method.specs.Circuit.{Gate, Circuit}
+use Rattle.method.specs.Circuit.{Circuit}
 use Rattle.method.specs.Stimulus.{Stimuli}
 use Rattle.method.specs.Frames.{Frames, framesAt}
-use Rattle.method.specs.Traces.{Trace, inputTrace, gateTrace, noTrace, traces, traceAt}
+use Rattle.method.specs.Traces.{inputTrace, gateTrace, noTrace, traces, traceAt}
 use Rattle.method.specs.Machine.{machine}
+use Rattle.method.proofs.Nets.{nets-ext}
 use Rattle.method.proofs.Following.{follows}
 use Rattle.method.proofs.Planned.{frames-are}
 
@@ -23,6 +20,4 @@ value-each c s n =
 
 pub same-traces : (c : Circuit) (s s′ : Stimuli) → ((i : ℕ) → i < c .inputs → s i ≡ s′ i) → traces c s ≡ traces c s′
 unfolding traces
-same-traces c s s′ h =
-    ap (λ (nets : List Trace). grow (λ (g : Gate). g .fanins) noTrace gateTrace nets (c .gates))
-    (from-ext (c .inputs) 0 (λ (i : ℕ). inputTrace (s i)) (λ (i : ℕ). inputTrace (s′ i)) (λ i a b. ap inputTrace (h i (omega arith))))
+same-traces c s s′ h = nets-ext noTrace gateTrace (λ (i : ℕ). inputTrace (s i)) c (λ (i : ℕ). inputTrace (s′ i)) (λ i l. ap inputTrace (h i l))

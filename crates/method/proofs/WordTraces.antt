@@ -9,16 +9,17 @@ use lib.Dec.{lit<}
 use lib.ListN.{length, getD, take, drop, length-map}
 use lib.Seq.{ext-getD}
 use Rattle.lists.specs.Tables.{tabulate}
-use Rattle.lists.specs.Grow.{grow}
 use Rattle.lists.proofs.Tabled.{from-length, tabulate-at}
-use Rattle.lists.proofs.Growing.{All2, none, both, all2-at, all2-from, grow-rel}
+use Rattle.lists.proofs.Growing.{All2, none, both}
 use Rattle.method.specs.declared.Kind.{Kind}
 use Rattle.method.specs.Circuit.{Gate, Circuit}
+use Rattle.method.specs.Nets.{nets}
 use Rattle.method.specs.Frames.{Frames, inputFrames, gateFrames, noFrames, framesAt}
 use Rattle.method.specs.Filter.{filterFrom, filtered}
 use Rattle.method.specs.Traces.{Trace, inputTrace, rawValue, traceWith, gateTrace, noTrace, traces, traceAt}
 use Rattle.method.specs.Words.{lanes, lane, pack}
 use Rattle.method.specs.Packed.{laneOf, packedWord, packedValues}
+use Rattle.method.proofs.Nets.{nets-rel}
 use Rattle.method.proofs.Bits.{zero-lane, lane-ext, pack-lt, pack-lane}
 use Rattle.method.proofs.WordGates.{wordFn, keepWord, Word, Words, getD-word, wordFn-word, keepWord-word, getD-lane, wordFn-lane, keepWord-lane}
 use Rattle.method.proofs.Planned.{frames-are}
@@ -58,7 +59,7 @@ noWordTrace = record { frames = noFrames; words = 0 ∷ [] }
 
 unfoldable pub wordTraces : Circuit → List ℕ → List ℕ → List WordTrace
 wordTraces c before after =
-    grow (λ (g : Gate). g .fanins) noWordTrace wordGateTrace (tabulate (c .inputs) (λ (i : ℕ). wordInput (getD before i 0) (getD after i 0))) (c .gates)
+    nets noWordTrace wordGateTrace (λ (i : ℕ). wordInput (getD before i 0) (getD after i 0)) c
 
 abbrev pub wordTraceAt : Circuit → List ℕ → List ℕ → ℕ → WordTrace
 wordTraceAt c before after n = getD (wordTraces c before after) n noWordTrace
@@ -164,10 +165,7 @@ module _ (L : ℕ) where
 
       pub words-lane : (n : ℕ) → IsLane (wordTraceAt c before after n) (traceAt c (laneOf L before after) n)
       unfolding wordTraces traces
-      words-lane n =
-          all2-at IsLane noWordTrace noTrace none-lane
-          (grow-rel IsLane (λ (g : Gate). g .fanins) noWordTrace wordGateTrace noTrace gateTrace none-lane gate-lane
-          (all2-from IsLane (λ (i : ℕ). wordInput (getD before i 0) (getD after i 0)) (λ (i : ℕ). inputTrace (laneOf L before after i)) input-lane (c .inputs) 0) (c .gates)) n
+      words-lane = nets-rel IsLane none-lane gate-lane input-lane c
 
 -- ---- so the words are the packed values
 

@@ -1,4 +1,5 @@
 -- The frames and the time-by-time machine agree: for every circuit, whatever drives its inputs, on every net, at every time.
+-- A net that does not exist is at level 0 always, by its frames and in the machine.
 -- `proofs/Agreement` proves this record.
 use Prim.Native.Nat.{ℕ, zero, suc, _+_, _-_, _*_, _≤_}
 use mathlib.Core.Path.{_≡_}

@@ -2,9 +2,8 @@
 use Prim.Native.Nat.{ℕ}
 use mathlib.Core.List.{List, [], _∷_, map}
 use lib.ListN.{getD}
-use Rattle.lists.specs.Tables.{tabulate}
-use Rattle.lists.specs.Grow.{grow}
 use Rattle.method.specs.Circuit.{Gate, Circuit}
+use Rattle.method.specs.Nets.{nets}
 use Rattle.method.specs.Times.{inputTimes, gateTimes}
 use Rattle.method.specs.Indices.{faninIndex, inertialIndices}
 
@@ -37,9 +36,9 @@ gateFrames g fanins =
 abbrev pub noFrames : Frames
 noFrames = record { times = 0 ∷ []; inertial = 0 ∷ []; rows = [] }
 
--- all nets of a circuit: the inputs, then gate by gate
+-- all nets of a circuit
 unfoldable pub frames : Circuit → List Frames
-frames c = grow (λ (g : Gate). g .fanins) noFrames gateFrames (tabulate (c .inputs) (λ (i : ℕ). inputFrames)) (c .gates)
+frames c = nets noFrames gateFrames (λ (i : ℕ). inputFrames) c
 
 -- net n
 abbrev pub framesAt : Circuit → ℕ → Frames

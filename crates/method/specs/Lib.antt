@@ -2,6 +2,7 @@
 -- A circuit and what drives it.
 pub mod Kinds
 pub mod Circuit
+pub mod Nets
 pub mod Stimulus
 -- The method: times, indices, frames, values, and what is read off them.
 pub mod Times

@@ -3,10 +3,10 @@ use Prim.Native.Nat.{ℕ, zero, suc, _-_}
 use mathlib.Core.Bool.{Bool, false, cond}
 use mathlib.Core.List.{List, map}
 use lib.ListN.{getD}
-use Rattle.lists.specs.Tables.{tabulateFrom, tabulate, allSame}
-use Rattle.lists.specs.Grow.{grow}
+use Rattle.lists.specs.Tables.{tabulateFrom, allSame}
 use Rattle.method.specs.Kinds.{gateFn}
 use Rattle.method.specs.Circuit.{Gate, Circuit}
+use Rattle.method.specs.Nets.{nets}
 use Rattle.method.specs.Stimulus.{Stimulus, Stimuli}
 
 abbrev pub Wave : Type 0
@@ -37,9 +37,9 @@ gateWave g fanins = outWave (g .inertial) (rawWave g fanins)
 abbrev pub noWave : Wave
 noWave t = false
 
--- all nets of a circuit: the inputs, then gate by gate
+-- all nets of a circuit
 unfoldable pub waves : Circuit → Stimuli → List Wave
-waves c s = grow (λ (g : Gate). g .fanins) noWave gateWave (tabulate (c .inputs) (λ (i : ℕ). inputWave (s i))) (c .gates)
+waves c s = nets noWave gateWave (λ (i : ℕ). inputWave (s i)) c
 
 -- out(t) of net n
 abbrev pub machine : Circuit → Stimuli → ℕ → Wave

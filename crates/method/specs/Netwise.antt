@@ -1,15 +1,14 @@
 -- The frames, the traces and the machine as equations by net number over the finished nets of a circuit without feedback.
--- So nothing hides behind the fold that makes the nets, nor behind what stands for a net or a frame that does not exist.
+-- So nothing hides behind `nets`, nor behind what stands for a net or a frame that does not exist.
 -- `proofs/Netwise` proves these records.
 use Prim.Native.Nat.{ℕ, suc, _+_, _-_, _<_}
 use mathlib.Core.Path.{_≡_}
 use mathlib.Core.Bool.{Bool, false, cond}
 use mathlib.Core.List.{List, [], _∷_, map}
 use lib.ListN.{length, getD}
-use Rattle.lists.specs.Tables.{tabulate}
-use Rattle.lists.specs.Grow.{grow}
 use Rattle.method.specs.Kinds.{gateFn}
-use Rattle.method.specs.Circuit.{Gate, Circuit, gateAt, NoFeedback}
+use Rattle.method.specs.Circuit.{Circuit, gateAt, NoFeedback}
+use Rattle.method.specs.Nets.{nets}
 use Rattle.method.specs.Stimulus.{Stimuli}
 use Rattle.method.specs.Times.{gateTimes}
 use Rattle.method.specs.Indices.{faninIndex, inertialIndices}
@@ -68,11 +67,9 @@ pub record Netwise (c : Circuit) : Type 0 where
 
 pub record NoDefault (c : Circuit) : Type 0 where
   -- whatever stands for a net that does not exist, the nets are the same
-  pub any-frames : (other : Frames) → grow (λ (g : Gate). g .fanins) other gateFrames (tabulate (c .inputs) (λ (i : ℕ). inputFrames)) (c .gates) ≡ frames c
-  pub any-trace : (s : Stimuli) (other : Trace)
-      → grow (λ (g : Gate). g .fanins) other gateTrace (tabulate (c .inputs) (λ (i : ℕ). inputTrace (s i))) (c .gates) ≡ traces c s
-  pub any-wave : (s : Stimuli) (other : Wave)
-      → grow (λ (g : Gate). g .fanins) other gateWave (tabulate (c .inputs) (λ (i : ℕ). inputWave (s i))) (c .gates) ≡ waves c s
+  pub any-frames : (other : Frames) → nets other gateFrames (λ (i : ℕ). inputFrames) c ≡ frames c
+  pub any-trace : (s : Stimuli) (other : Trace) → nets other gateTrace (λ (i : ℕ). inputTrace (s i)) c ≡ traces c s
+  pub any-wave : (s : Stimuli) (other : Wave) → nets other gateWave (λ (i : ℕ). inputWave (s i)) c ≡ waves c s
   -- each frame has one value, and a fan-in index names a frame of the fan-in
   pub value-each : (s : Stimuli) (n : ℕ) → length (traceAt c s n .values) ≡ length (framesAt c n .times)
   pub index-within : (d n t : ℕ) → faninIndex d (framesAt c n .times) t < length (framesAt c n .times)

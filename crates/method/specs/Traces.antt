@@ -3,11 +3,10 @@ use Prim.Native.Nat.{ℕ}
 use mathlib.Core.Bool.{Bool, false}
 use mathlib.Core.List.{List, [], _∷_, map, zipWith}
 use lib.ListN.{getD}
-use Rattle.lists.specs.Tables.{tabulate}
-use Rattle.lists.specs.Grow.{grow}
 use Rattle.method.specs.declared.Kind.{Kind}
 use Rattle.method.specs.Kinds.{gateFn}
 use Rattle.method.specs.Circuit.{Gate, Circuit}
+use Rattle.method.specs.Nets.{nets}
 use Rattle.method.specs.Stimulus.{Stimulus, Stimuli}
 use Rattle.method.specs.Frames.{Frames, inputFrames, gateFrames, noFrames}
 use Rattle.method.specs.Filter.{filtered}
@@ -38,9 +37,9 @@ gateTrace g fanins =
 abbrev pub noTrace : Trace
 noTrace = record { frames = noFrames; values = false ∷ [] }
 
--- all nets of a circuit: the inputs, then gate by gate
+-- all nets of a circuit
 unfoldable pub traces : Circuit → Stimuli → List Trace
-traces c s = grow (λ (g : Gate). g .fanins) noTrace gateTrace (tabulate (c .inputs) (λ (i : ℕ). inputTrace (s i))) (c .gates)
+traces c s = nets noTrace gateTrace (λ (i : ℕ). inputTrace (s i)) c
 
 -- net n
 abbrev pub traceAt : Circuit → Stimuli → ℕ → Trace
