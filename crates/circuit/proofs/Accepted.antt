@@ -8,10 +8,9 @@ use native.Mathlib.Omega.{arith}
 use lib.ListN.{length}
 use borrow.Author.Tests.{leb-true, le-leb}
 use Rattle.lists.specs.Ladder.{firstNo, accepted}
-use Rattle.lists.specs.Tables.{tabulateFrom, tabulate}
+use Rattle.lists.specs.Tables.{tabulateFrom, tabulate, allBelow}
 use Rattle.lists.proofs.Choices.{here-or-later, between-yes, between-least-true, between-most-true}
 use Rattle.lists.proofs.Ladders.{asked, all-asked, ask-yes, accepted-none, unless-none, firstNo-append, first-none}
-use Rattle.method.specs.Circuit.{allBelow}
 use Rattle.circuit.specs.File.{inputsOf, gatesOf, headLength, lengthOf, kindByte, delayOf, inertialOf, entriesOf, faninsOf, kindOf}
 use Rattle.circuit.specs.Limits.{mostInputs, mostGates, delaysSuit}
 use Rattle.circuit.specs.Questions.{fills, lengthSuits, headQuestions, gateQuestions, questions, Size, sizeOf, readOf}

@@ -8,12 +8,11 @@ use native.Mathlib.Omega.{arith}
 use lib.ListN.{drop}
 use borrow.Author.Tests.{eq-eqb, ne-eqb, le-leb, lt-leb, lt-ltb, le-ltb, not-true, not-false}
 use Rattle.lists.specs.Ladder.{firstNo, between, accepted, refused}
-use Rattle.lists.specs.Tables.{tabulateFrom, tabulate}
+use Rattle.lists.specs.Tables.{tabulateFrom, tabulate, allBelow}
 use Rattle.lists.proofs.Ladders.{ask-yes, ask-no, all-asked, firstNo-append, first, first-here, unless-none, unless-some, Numbered}
 use Rattle.lists.proofs.Tabled.{from-step, from-end}
 use Rattle.method.specs.Kinds.{takes}
 use Rattle.method.specs.declared.Kind.{Kind}
-use Rattle.method.specs.Circuit.{allBelow}
 use Rattle.circuit.specs.declared.GateRecord.{GateRecord}
 use Rattle.circuit.specs.File.{byteAt, offsetOf, inputsOf, gatesOf, lengthOf, recordLength, kindByte, delayOf, inertialOf, entriesOf, faninAt, faninsOf, kindOf, recordOf}
 use Rattle.circuit.specs.Limits.{mostDelay, delaysSuit}

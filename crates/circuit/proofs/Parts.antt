@@ -9,10 +9,10 @@ use lib.ListN.{length, getD}
 use lib.Dec.{ltb}
 use borrow.Author.Tests.{ltb-true}
 use Rattle.lists.specs.Ladder.{accepted}
-use Rattle.lists.specs.Tables.{tabulate}
+use Rattle.lists.specs.Tables.{tabulate, allBelow}
 use Rattle.lists.proofs.Tabled.{from-length, tabulate-at, every-from}
 use Rattle.method.specs.Kinds.{mostFanins}
-use Rattle.method.specs.Circuit.{Gate, allBelow}
+use Rattle.method.specs.Circuit.{Gate}
 use Rattle.method.proofs.Taking.{takes-range}
 use Rattle.circuit.specs.declared.GateRecord.{GateRecord}
 use Rattle.circuit.specs.File.{inputsOf, gatesOf, faninAt, faninsOf, gateOf, recordOf, circuitOf}

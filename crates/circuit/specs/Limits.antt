@@ -4,9 +4,10 @@ use mathlib.Core.Path.{_≡_}
 use mathlib.Core.Bool.{Bool, true, _&&_}
 use mathlib.Core.List.{List, [], _∷_}
 use lib.ListN.{length}
+use Rattle.lists.specs.Tables.{allBelow}
 use Rattle.lists.specs.Ladder.{between}
 use Rattle.method.specs.Kinds.{takes}
-use Rattle.method.specs.Circuit.{Gate, Circuit, allBelow}
+use Rattle.method.specs.Circuit.{Gate, Circuit}
 
 abbrev pub mostInputs : ℕ
 mostInputs = 32

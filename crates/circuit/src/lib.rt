@@ -2,10 +2,9 @@
 ghost use mathlib.Core.Path.{_≡_};
 ghost use Prim.Native.Nat.{_+_, _*_, _≤_};
 ghost use Rattle.lists.specs.Ladder.{firstNo};
-ghost use Rattle.lists.specs.Tables.{tabulate};
+ghost use Rattle.lists.specs.Tables.{tabulate, allBelow};
 ghost use mathlib.Core.List.{flatten};
 ghost use Rattle.method.specs.Kinds.{takes};
-ghost use Rattle.method.specs.Circuit.{allBelow};
 ghost use Rattle.circuit.specs.File.{inputsOf, headLength, faninAt, kindOf, recordOf};
 ghost use Rattle.circuit.specs.Questions.{fills, headQuestions, gateQuestions, lengthSuits, readOf, onPaper};
 ghost use Rattle.circuit.specs.Limits.{mostInputs, mostGates, delaysSuit};

@@ -30,7 +30,7 @@ pub beq-refl : (a : Bool) → Bool·beq a a ≡ true
 beq-refl true = refl
 beq-refl false = refl
 
-pub cond-same : (b x : Bool) → cond b x x ≡ x
+cond-same : (b x : Bool) → cond b x x ≡ x
 cond-same true x = refl
 cond-same false x = refl
 
@@ -109,11 +109,18 @@ module _ (raw : Wave) where
         gap (outWave di raw) p s (suc s ∷ ts) (out-steady di p (suc s ∷ ts) st) (omega arith, r .1) (omega arith),
       )
 
+  -- a frame whose filtered value is the wave's, before frames that are
+  one-before : (di s : ℕ) (ts : List ℕ) (u : Bool) → u ≡ outWave di raw s
+      → filterFrom (outWave di raw s) (inertialIndices di ts) (map raw ts) ≡ map (outWave di raw) ts
+      → u ∷ filterFrom u (inertialIndices di ts) (map raw ts) ≡ map (outWave di raw) (s ∷ ts)
+  one-before di s ts u e rest = rw e (ap (λ (l : List Bool). outWave di raw s ∷ l) rest)
+
   filter-from : (di p : ℕ) (ts : List ℕ) → Rise p ts → Steady p ts raw
       → filterFrom (outWave di raw p) (inertialIndices di ts) (map raw ts) ≡ map (outWave di raw) ts
   filter-from di p [] r st = refl
   filter-from di p (s ∷ ts) r st =
-      rw (next di p s ts r st) (ap (λ (l : List Bool). outWave di raw s ∷ l) (filter-from di s ts (r .1) (steady-tail raw p s ts (omega arith) st)))
+      one-before di s ts (keep (outWave di raw p) (raw s) (take (upTo (s + di) ts) (map raw ts))) (next di p s ts r st)
+      (filter-from di s ts (r .1) (steady-tail raw p s ts (omega arith) st))
 
   pub filter-samples : (di : ℕ) (ts : List ℕ) → Starts ts → Steady 0 ts raw → filtered (inertialIndices di ts) (map raw ts) ≡ map (outWave di raw) ts
   filter-samples di [] r st = refl

@@ -5,12 +5,11 @@ use Prim.Native.Nat.{ℕ, zero, suc, _+_, _-_, zero-le}
 use mathlib.Core.Path.{_≡_, refl, sym, ap, ap₂, _∙_, fun-ext}
 use mathlib.Core.Logic.{inl, inr}
 use mathlib.Core.Bool.{Bool, false, true≢false}
-use mathlib.Core.List.{List, _∷_, map, flatMap, zipWith, map-map}
+use mathlib.Core.List.{List, _∷_, map, flatMap, zipWith, map-map, Forall₂, Forall₂·nil, Forall₂·cons}
 use native.Mathlib.Omega.{arith}
 use lib.Dec.{eqb}
 use lib.ListN.{getD}
 use Rattle.lists.proofs.Choices.{order, or-left, or-right}
-use Rattle.lists.proofs.Growing.{All2, none, both}
 use Rattle.method.specs.Kinds.{gateFn}
 use Rattle.method.specs.Circuit.{Gate, Circuit}
 use Rattle.method.specs.Stimulus.{Stimulus, Stimuli}
@@ -52,15 +51,15 @@ abbrev pub timesOf : List Trace → List (List ℕ)
 timesOf ns = map (λ (n : Trace). n .frames .times) ns
 
 -- the fan-ins stand still at suc v if that is a time of none of them
-still : (v : ℕ) {ns : List Trace} {ws : List Wave} → All2 Follows ns ws → amongSome (suc v) (timesOf ns) ≡ false
+still : (v : ℕ) {ns : List Trace} {ws : List Wave} → Forall₂ Follows ns ws → amongSome (suc v) (timesOf ns) ≡ false
     → map (λ (w : Wave). w (suc v)) ws ≡ map (λ (w : Wave). w v) ws
-still v none e = refl
-still v (both {x = n} {xs = ns} r rs) e =
+still v Forall₂·nil e = refl
+still v (Forall₂·cons {a = n} {l₁ = ns} r rs) e =
     ap₂ _∷_ (r .steady v zero-le (or-left (among (suc v) (n .frames .times)) (amongSome (suc v) (timesOf ns)) e))
     (still v rs (or-right (among (suc v) (n .frames .times)) (amongSome (suc v) (timesOf ns)) e))
 
 -- and so they do a delay d later, if that is none of their times with d added
-pub still-later : (d u : ℕ) {ns : List Trace} {ws : List Wave} → All2 Follows ns ws → among (suc u) (flatMap (shifted d) (timesOf ns)) ≡ false
+pub still-later : (d u : ℕ) {ns : List Trace} {ws : List Wave} → Forall₂ Follows ns ws → among (suc u) (flatMap (shifted d) (timesOf ns)) ≡ false
     → map (λ (w : Wave). w (suc u - d)) ws ≡ map (λ (w : Wave). w (u - d)) ws
 still-later d u {ns} {ws} r e =
     elim (order d u) [
@@ -74,28 +73,28 @@ fanin-value : (d t : ℕ) (n : Trace) (w : Wave) → Follows n w → getD (n .va
 fanin-value d t n w f = rw (index-last d (n .frames .times) t (f .starts)) (level-follows n w f (t - d))
 
 -- so are those of all fan-ins, by the row of a frame of time t
-pub row-values : (d t : ℕ) {ns : List Trace} {ws : List Wave} → All2 Follows ns ws
+pub row-values : (d t : ℕ) {ns : List Trace} {ws : List Wave} → Forall₂ Follows ns ws
     → zipWith (λ (i : ℕ) (vs : List Bool). getD vs i false) (faninRow d (timesOf ns) t) (map (λ (n : Trace). n .values) ns) ≡ map (λ (w : Wave). w (t - d)) ws
 unfolding zipWith
-row-values d t none = refl
-row-values d t (both {x = n} {y = w} r rs) = ap₂ _∷_ (fanin-value d t n w r) (row-values d t rs)
+row-values d t Forall₂·nil = refl
+row-values d t (Forall₂·cons {a = n} {b = w} r rs) = ap₂ _∷_ (fanin-value d t n w r) (row-values d t rs)
 
 -- ---- one gate
 
-raw-steady : (g : Gate) {ns : List Trace} {ws : List Wave} → All2 Follows ns ws → Steady 0 (gateTimes (g .delay) (timesOf ns)) (rawWave g ws)
+raw-steady : (g : Gate) {ns : List Trace} {ws : List Wave} → Forall₂ Follows ns ws → Steady 0 (gateTimes (g .delay) (timesOf ns)) (rawWave g ws)
 unfolding gateTimes
 raw-steady g {ns} {ws} r u h e =
     let later : List ℕ = flatMap (shifted (g .delay)) (timesOf ns) in
     ap (gateFn (g .kind)) (still-later (g .delay) u r (sym (rising-among (suc u) later) ∙ or-right (eqb (suc u) 0) (among (suc u) (rising later)) e))
 
-raw-values : (g : Gate) {ns : List Trace} {ws : List Wave} → All2 Follows ns ws → (ts : List ℕ)
+raw-values : (g : Gate) {ns : List Trace} {ws : List Wave} → Forall₂ Follows ns ws → (ts : List ℕ)
     → map (rawValue (g .kind) (map (λ (n : Trace). n .values) ns)) (map (faninRow (g .delay) (timesOf ns)) ts) ≡ map (rawWave g ws) ts
 unfolding rawValue
 raw-values g {ns} {ws} r ts =
     map-map (rawValue (g .kind) (map (λ (n : Trace). n .values) ns)) (faninRow (g .delay) (timesOf ns)) ts
     ∙ ap (λ (f : ℕ → Bool). map f ts) (fun-ext (λ t. ap (gateFn (g .kind)) (row-values (g .delay) t r)))
 
-pub gate-follows : (g : Gate) (ns : List Trace) (ws : List Wave) → All2 Follows ns ws → Follows (gateTrace g ns) (gateWave g ws)
+pub gate-follows : (g : Gate) (ns : List Trace) (ws : List Wave) → Forall₂ Follows ns ws → Follows (gateTrace g ns) (gateWave g ws)
 unfolding gateTrace traceWith gateFrames framesWith
 gate-follows g ns ws r =
     rw (map-map (λ (f : Frames). f .times) (λ (n : Trace). n .frames) ns)

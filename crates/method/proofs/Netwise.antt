@@ -14,7 +14,8 @@ use Rattle.method.specs.Frames.{Frames, inputFrames, faninRow, framesWit
 use Rattle.method.specs.Filter.{filtered}
 use Rattle.method.specs.Traces.{Trace, inputTrace, rawValue, traceWith, gateTrace, noTrace, traces, traceAt}
 use Rattle.method.specs.Machine.{Wave, inputWave, outWave, gateWave, noWave, settled, waves, machine}
-use Rattle.method.specs.Netwise.{faninTimesOf, rawOf, machineRaw, Netwise, NoDefault, NetByNet}
+use Rattle.method.specs.Netwise.{faninTimesOf, rawOf, machineRaw, EveryNet, EveryGate, NetByNet}
+use Rattle.method.proofs.Taking.{takes-range}
 use Rattle.method.proofs.Nets.{nets-count, input-net, gate-net, any-net}
 use Rattle.method.proofs.Lasting.{last-within, index-last}
 use Rattle.method.proofs.Planned.{frames-are, times-start}
@@ -93,39 +94,46 @@ module _ (c : Circuit) (ok : NoFeedback c) (j : ℕ) (h : j < length (c .gates))
 -- ---- the records
 
 module _ (c : Circuit) where
+  input-frames : (i : ℕ) → i < c .inputs → framesAt c i ≡ inputFrames
+  unfolding frames
+  input-frames i h = input-net noFrames gateFrames (λ (i : ℕ). inputFrames) c i h
+
   input-wave : (s : Stimuli) (i : ℕ) → i < c .inputs → machine c s i ≡ inputWave (s i)
   unfolding waves
   input-wave s i h = input-net noWave gateWave (λ (i : ℕ). inputWave (s i)) c i h
 
-  netwise : NoFeedback c → Netwise c
-  unfolding frames traces waves framesWith
-  netwise ok =
+  every-net : EveryNet c
+  unfolding frames traces waves
+  every-net =
       record {
         frames-count = nets-count noFrames gateFrames (λ (i : ℕ). inputFrames) c;
         traces-count = λ s. nets-count noTrace gateTrace (λ (i : ℕ). inputTrace (s i)) c;
         waves-count = λ s. nets-count noWave gateWave (λ (i : ℕ). inputWave (s i)) c;
-        input-frames = λ i h. input-net noFrames gateFrames (λ (i : ℕ). inputFrames) c i h;
+        input-times = λ i h. ap (λ (f : Frames). f .times) (input-frames i h);
+        input-inertial = λ i h. ap (λ (f : Frames). f .inertial) (input-frames i h);
+        input-rows = λ i h. ap (λ (f : Frames). f .rows) (input-frames i h);
         input-values = λ s i h. ap (λ (n : Trace). n .values) (input-net noTrace gateTrace (λ (i : ℕ). inputTrace (s i)) c i h);
         input-first = λ s i h. ap (λ (w : Wave). w 0) (input-wave s i h);
         input-later = λ s i t h. ap (λ (w : Wave). w (suc t)) (input-wave s i h);
+        value-each = value-each c;
+        index-within = λ d n t. rw (index-last d (framesAt c n .times) t (times-start c n)) (last-within (framesAt c n .times) (t - d) (times-start c n));
+      }
+
+  every-gate : NoFeedback c → EveryGate c
+  unfolding frames traces waves framesWith
+  every-gate ok =
+      record {
         gate-times = λ j h. times-of c ok j h;
         gate-inertial = λ j h. ap (λ (f : Frames). f .inertial) (frames-with c ok j h);
         gate-rows = λ j h. ap (λ (f : Frames). f .rows) (frames-with c ok j h);
         gate-values = λ s j h. values-of c ok j h s;
         gate-first = λ s j h. first-of c ok j h s;
         gate-later = λ s j t h. later-of c ok j h s t;
-      }
-
-  no-default : NoFeedback c → NoDefault c
-  unfolding frames traces waves
-  no-default ok =
-      record {
         any-frames = any-net noFrames gateFrames (λ (i : ℕ). inputFrames) c ok;
         any-trace = λ s. any-net noTrace gateTrace (λ (i : ℕ). inputTrace (s i)) c ok;
         any-wave = λ s. any-net noWave gateWave (λ (i : ℕ). inputWave (s i)) c ok;
-        value-each = value-each c;
-        index-within = λ d n t. rw (index-last d (framesAt c n .times) t (times-start c n)) (last-within (framesAt c n .times) (t - d) (times-start c n));
+        some-fanin = λ j e. takes-range (gateAt c j .kind) (length (gateAt c j .fanins)) e .0;
       }
 
 pub net-by-net : NetByNet
-net-by-net c ok = (netwise c ok, no-default c ok)
+net-by-net c = (every-net c, every-gate c)

@@ -4,7 +4,7 @@ use Prim.Native.Nat.{ℕ, zero, suc, _+_, _-_, _*_, _≤_, zero-le}
 use mathlib.Core.Path.{_≡_, refl, sym, ap, ap₂, _∙_}
 use mathlib.Core.Logic.{_⊎_, inl, inr}
 use mathlib.Core.Bool.{Bool, true, false, _||_, false≢true}
-use mathlib.Core.List.{List, [], _∷_, _++_, map, flatMap}
+use mathlib.Core.List.{List, [], _∷_, _++_, map, flatMap, Forall₂, Forall₂·nil, Forall₂·cons}
 use native.Mathlib.Omega.{arith}
 use native.Mathlib.Nat.{mul-suc, mul-le-mul-left}
 use lib.Dec.{eqb}
@@ -13,7 +13,6 @@ use borrow.Author.Tests.{eqb-true, eq-eqb}
 use Rattle.lists.specs.Tables.{tabulate}
 use Rattle.lists.proofs.Choices.{either, order}
 use Rattle.lists.proofs.Tabled.{from-length, tabulate-at}
-use Rattle.lists.proofs.Growing.{All2, none, both}
 use Rattle.lists.proofs.ByNumber.{grow-each}
 use Rattle.method.specs.Circuit.{Gate, Circuit, noGate, DelaysUpTo}
 use Rattle.method.specs.Stimulus.{Stimuli}
@@ -29,11 +28,11 @@ use Rattle.method.proofs.Following.{follows}
 abbrev HasFrames : Frames → Trace → Type 0
 HasFrames f n = f ≡ n .frames
 
-all-frames : {fs : List Frames} {ns : List Trace} → All2 HasFrames fs ns → fs ≡ map (λ (n : Trace). n .frames) ns
-all-frames none = refl
-all-frames (both r rs) = ap₂ _∷_ r (all-frames rs)
+all-frames : {fs : List Frames} {ns : List Trace} → Forall₂ HasFrames fs ns → fs ≡ map (λ (n : Trace). n .frames) ns
+all-frames Forall₂·nil = refl
+all-frames (Forall₂·cons r rs) = ap₂ _∷_ r (all-frames rs)
 
-gate-frames : (g : Gate) (fs : List Frames) (ns : List Trace) → All2 HasFrames fs ns → HasFrames (gateFrames g fs) (gateTrace g ns)
+gate-frames : (g : Gate) (fs : List Frames) (ns : List Trace) → Forall₂ HasFrames fs ns → HasFrames (gateFrames g fs) (gateTrace g ns)
 unfolding gateTrace traceWith
 gate-frames g fs ns r = ap (gateFrames g) (all-frames r)
 

@@ -127,15 +127,15 @@ module _ (L : ℕ) where
 abbrev pub Word : ℕ → Type 0
 Word w = w < 2 ^ lanes
 
-abbrev pub Words : List ℕ → Type 0
-Words [] = Unit {0}
-Words (w ∷ ws) = Word w × Words ws
+abbrev pub AllWords : List ℕ → Type 0
+AllWords [] = Unit {0}
+AllWords (w ∷ ws) = Word w × AllWords ws
 
-pub words-of : (ws : List ℕ) → ((i : ℕ) → Word (getD ws i 0)) → Words ws
+pub words-of : (ws : List ℕ) → ((i : ℕ) → Word (getD ws i 0)) → AllWords ws
 words-of [] h = tt
 words-of (w ∷ ws) h = (h 0, words-of ws (λ i. h (suc i)))
 
-pub getD-word : (ws : List ℕ) → Words ws → (i : ℕ) → Word (getD ws i 0)
+pub getD-word : (ws : List ℕ) → AllWords ws → (i : ℕ) → Word (getD ws i 0)
 getD-word [] h i = lit< tt
 getD-word (w ∷ ws) h zero = h .0
 getD-word (w ∷ ws) h (suc i) = getD-word ws (h .1) i
@@ -143,20 +143,20 @@ getD-word (w ∷ ws) h (suc i) = getD-word ws (h .1) i
 not-word : (w : ℕ) → Word (notWord w)
 not-word w = ones-sub-lt lanes w
 
-pub andAll-word : (ws : List ℕ) → Words ws → Word (andAll ws)
+pub andAll-word : (ws : List ℕ) → AllWords ws → Word (andAll ws)
 andAll-word [] h = lit< tt
 andAll-word (w ∷ ws) h = and-lt lanes w (andAll ws) (h .0) (andAll-word ws (h .1))
 
-pub orAll-word : (ws : List ℕ) → Words ws → Word (orAll ws)
+pub orAll-word : (ws : List ℕ) → AllWords ws → Word (orAll ws)
 orAll-word [] h = lit< tt
 orAll-word (w ∷ ws) h = or-lt lanes w (orAll ws) (h .0) (orAll-word ws (h .1))
 
-pub exactlyOne-word : (one more : ℕ) (ws : List ℕ) → Word one → Word more → Words ws → Word (exactlyOne one more ws)
+pub exactlyOne-word : (one more : ℕ) (ws : List ℕ) → Word one → Word more → AllWords ws → Word (exactlyOne one more ws)
 exactlyOne-word one more [] a b h = xor-lt lanes one more a b
 exactlyOne-word one more (w ∷ ws) a b h =
     exactlyOne-word (bitOr one w) (bitOr more (bitAnd one w)) ws (or-lt lanes one w a (h .0)) (or-lt lanes more (bitAnd one w) b (and-lt lanes one w a (h .0))) (h .1)
 
-pub wordFn-word : (k : Kind) (ws : List ℕ) → Words ws → Word (wordFn k ws)
+pub wordFn-word : (k : Kind) (ws : List ℕ) → AllWords ws → Word (wordFn k ws)
 unfolding wordFn
 wordFn-word Buf ws h = getD-word ws h 0
 wordFn-word Not ws h = not-word (getD ws 0 0)
@@ -167,11 +167,11 @@ wordFn-word Nor ws h = not-word (orAll ws)
 wordFn-word Xor ws h = exactlyOne-word 0 0 ws (lit< tt) (lit< tt) h
 wordFn-word Xnor ws h = not-word (exactlyOne 0 0 ws)
 
-pub differs-word : (r : ℕ) (ws : List ℕ) → Word r → Words ws → Word (differs r ws)
+pub differs-word : (r : ℕ) (ws : List ℕ) → Word r → AllWords ws → Word (differs r ws)
 differs-word r [] a h = lit< tt
 differs-word r (w ∷ ws) a h = or-lt lanes (bitXor w r) (differs r ws) (xor-lt lanes w r (h .0) a) (differs-word r ws a (h .1))
 
-pub keepWord-word : (v r : ℕ) (ws : List ℕ) → Word v → Word r → Words ws → Word (keepWord v r ws)
+pub keepWord-word : (v r : ℕ) (ws : List ℕ) → Word v → Word r → AllWords ws → Word (keepWord v r ws)
 keepWord-word v r ws a b h =
     xor-lt lanes r (bitAnd (bitXor r v) (differs r ws)) b (and-lt lanes (bitXor r v) (differs r ws) (xor-lt lanes r v b a) (differs-word r ws b h))
 
@@ -186,7 +186,7 @@ module _ (L : ℕ) (h : L < lanes) where
   andAll-lane (w ∷ ws) = and-lane L w (andAll ws) ∙ ap (λ (b : Bool). lane L w && b) (andAll-lane ws)
 
   -- every kind of gate
-  pub wordFn-lane : (k : Kind) (ws : List ℕ) → Words ws → lane L (wordFn k ws) ≡ gateFn k (map (lane L) ws)
+  pub wordFn-lane : (k : Kind) (ws : List ℕ) → AllWords ws → lane L (wordFn k ws) ≡ gateFn k (map (lane L) ws)
   unfolding wordFn gateFn
   wordFn-lane Buf ws s = getD-lane L ws 0
   wordFn-lane Not ws s = notWord-lane (getD ws 0 0) (getD-word ws s 0) ∙ ap not (getD-lane L ws 0)

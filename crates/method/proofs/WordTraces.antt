@@ -3,14 +3,13 @@
 use Prim.Native.Nat.{ℕ, zero, suc, _<_}
 use mathlib.Core.Path.{_≡_, refl, sym, ap, ap₂, _∙_, fun-ext}
 use mathlib.Core.Bool.{Bool, false}
-use mathlib.Core.List.{List, [], _∷_, map, zipWith, map-map}
+use mathlib.Core.List.{List, [], _∷_, map, zipWith, map-map, Forall₂, Forall₂·nil, Forall₂·cons}
 use native.Mathlib.Omega.{arith}
 use lib.Dec.{lit<}
 use lib.ListN.{length, getD, take, drop, length-map}
 use lib.Seq.{ext-getD}
 use Rattle.lists.specs.Tables.{tabulate}
 use Rattle.lists.proofs.Tabled.{from-length, tabulate-at}
-use Rattle.lists.proofs.Growing.{All2, none, both}
 use Rattle.method.specs.declared.Kind.{Kind}
 use Rattle.method.specs.Circuit.{Gate, Circuit}
 use Rattle.method.specs.Nets.{nets}
@@ -21,7 +20,7 @@ use Rattle.method.specs.Words.{lanes, lane, pack}
 use Rattle.method.specs.Packed.{laneOf, packedWord, packedValues}
 use Rattle.method.proofs.Nets.{nets-rel}
 use Rattle.method.proofs.Bits.{zero-lane, lane-ext, pack-lt, pack-lane}
-use Rattle.method.proofs.WordGates.{wordFn, keepWord, Word, Words, getD-word, wordFn-word, keepWord-word, getD-lane, wordFn-lane, keepWord-lane}
+use Rattle.method.proofs.WordGates.{wordFn, keepWord, Word, AllWords, getD-word, wordFn-word, keepWord-word, getD-lane, wordFn-lane, keepWord-lane}
 use Rattle.method.proofs.Planned.{frames-are}
 use Rattle.method.proofs.Tracing.{value-each}
 
@@ -71,23 +70,23 @@ map-take f zero xs = refl
 map-take f (suc k) [] = refl
 map-take f (suc k) (x ∷ xs) = ap (λ l. f x ∷ l) (map-take f k xs)
 
-take-words : (k : ℕ) (ws : List ℕ) → Words ws → Words (take k ws)
+take-words : (k : ℕ) (ws : List ℕ) → AllWords ws → AllWords (take k ws)
 take-words zero ws h = tt
 take-words (suc k) [] h = tt
 take-words (suc k) (w ∷ ws) h = (h .0, take-words k ws (h .1))
 
-map-words : {A : Type 0} (f : A → ℕ) → ((x : A) → Word (f x)) → (xs : List A) → Words (map f xs)
+map-words : {A : Type 0} (f : A → ℕ) → ((x : A) → Word (f x)) → (xs : List A) → AllWords (map f xs)
 map-words f h [] = tt
 map-words f h (x ∷ xs) = (h x, map-words f h xs)
 
-filterFrom-words : (v : ℕ) (ks rs : List ℕ) → Word v → Words rs → Words (wordFilterFrom v ks rs)
+filterFrom-words : (v : ℕ) (ks rs : List ℕ) → Word v → AllWords rs → AllWords (wordFilterFrom v ks rs)
 filterFrom-words v [] rs a h = tt
 filterFrom-words v (k ∷ ks) [] a h = tt
 filterFrom-words v (k ∷ ks) (r ∷ rs) a h =
     let w : Word (keepWord v r (take k rs)) = keepWord-word v r (take k rs) a (h .0) (take-words k rs (h .1)) in
     (w, filterFrom-words (keepWord v r (take k rs)) ks rs w (h .1))
 
-pub filtered-words : (ks rs : List ℕ) → Words rs → Words (wordFiltered ks rs)
+pub filtered-words : (ks rs : List ℕ) → AllWords rs → AllWords (wordFiltered ks rs)
 filtered-words ks [] h = tt
 filtered-words ks (r ∷ rs) h = (h .0, filterFrom-words r (drop 1 ks) rs (h .0) (h .1))
 
@@ -109,36 +108,36 @@ module _ (L : ℕ) where
   pub record IsLane (m : WordTrace) (n : Trace) : Type 0 where
     pub same-frames : m .frames ≡ n .frames
     pub bits : map (lane L) (m .words) ≡ n .values
-    pub small : Words (m .words)
+    pub small : AllWords (m .words)
 
-  all-same-frames : {ms : List WordTrace} {ns : List Trace} → All2 IsLane ms ns → map (λ (m : WordTrace). m .frames) ms ≡ map (λ (n : Trace). n .frames) ns
-  all-same-frames none = refl
-  all-same-frames (both r rs) = ap₂ _∷_ (r .same-frames) (all-same-frames rs)
+  all-same-frames : {ms : List WordTrace} {ns : List Trace} → Forall₂ IsLane ms ns → map (λ (m : WordTrace). m .frames) ms ≡ map (λ (n : Trace). n .frames) ns
+  all-same-frames Forall₂·nil = refl
+  all-same-frames (Forall₂·cons r rs) = ap₂ _∷_ (r .same-frames) (all-same-frames rs)
 
   -- the fan-ins' words at the indexed frames
   abbrev pointed : List ℕ → List WordTrace → List ℕ
   pointed row ms = zipWith (λ (i : ℕ) (ws : List ℕ). getD ws i 0) row (map (λ (m : WordTrace). m .words) ms)
 
-  pointed-words : (row : List ℕ) {ms : List WordTrace} {ns : List Trace} → All2 IsLane ms ns → Words (pointed row ms)
+  pointed-words : (row : List ℕ) {ms : List WordTrace} {ns : List Trace} → Forall₂ IsLane ms ns → AllWords (pointed row ms)
   unfolding zipWith
   pointed-words [] r = tt
-  pointed-words (i ∷ row) none = tt
-  pointed-words (i ∷ row) (both {x = m} r rs) = (getD-word (m .words) (r .small) i, pointed-words row rs)
+  pointed-words (i ∷ row) Forall₂·nil = tt
+  pointed-words (i ∷ row) (Forall₂·cons {a = m} r rs) = (getD-word (m .words) (r .small) i, pointed-words row rs)
 
-  pointed-lane : (row : List ℕ) {ms : List WordTrace} {ns : List Trace} → All2 IsLane ms ns
+  pointed-lane : (row : List ℕ) {ms : List WordTrace} {ns : List Trace} → Forall₂ IsLane ms ns
       → map (lane L) (pointed row ms) ≡ zipWith (λ (i : ℕ) (vs : List Bool). getD vs i false) row (map (λ (n : Trace). n .values) ns)
   unfolding zipWith
   pointed-lane [] r = refl
-  pointed-lane (i ∷ row) none = refl
-  pointed-lane (i ∷ row) (both {x = m} r rs) = ap₂ _∷_ (getD-lane L (m .words) i ∙ rw (r .bits)) (pointed-lane row rs)
+  pointed-lane (i ∷ row) Forall₂·nil = refl
+  pointed-lane (i ∷ row) (Forall₂·cons {a = m} r rs) = ap₂ _∷_ (getD-lane L (m .words) i ∙ rw (r .bits)) (pointed-lane row rs)
 
   module _ (h : L < lanes) where
-    raw-lane : (k : Kind) (row : List ℕ) {ms : List WordTrace} {ns : List Trace} → All2 IsLane ms ns
+    raw-lane : (k : Kind) (row : List ℕ) {ms : List WordTrace} {ns : List Trace} → Forall₂ IsLane ms ns
         → lane L (wordRaw k (map (λ (m : WordTrace). m .words) ms) row) ≡ rawValue k (map (λ (n : Trace). n .values) ns) row
     unfolding rawValue
     raw-lane k row {ms} r = wordFn-lane L h k (pointed row ms) (pointed-words row r) ∙ rw (pointed-lane row r)
 
-    gate-lane : (g : Gate) (ms : List WordTrace) (ns : List Trace) → All2 IsLane ms ns → IsLane (wordGateTrace g ms) (gateTrace g ns)
+    gate-lane : (g : Gate) (ms : List WordTrace) (ns : List Trace) → Forall₂ IsLane ms ns → IsLane (wordGateTrace g ms) (gateTrace g ns)
     unfolding wordGateTrace wordTraceWith gateTrace traceWith
     gate-lane g ms ns r =
         record {
@@ -159,7 +158,7 @@ module _ (L : ℕ) where
     none-lane : IsLane noWordTrace noTrace
     none-lane = record { same-frames = refl; bits = ap (λ (b : Bool). b ∷ []) (zero-lane L); small = (lit< tt, tt) }
 
-    module _ (c : Circuit) (before after : List ℕ) (hb : Words before) (ha : Words after) where
+    module _ (c : Circuit) (before after : List ℕ) (hb : AllWords before) (ha : AllWords after) where
       input-lane : (i : ℕ) → IsLane (wordInput (getD before i 0) (getD after i 0)) (inputTrace (laneOf L before after i))
       input-lane i = record { same-frames = refl; bits = refl; small = (getD-word before hb i, (getD-word after ha i, tt)) }
 
@@ -169,7 +168,7 @@ module _ (L : ℕ) where
 
 -- ---- so the words are the packed values
 
-module _ (c : Circuit) (before after : List ℕ) (hb : Words before) (ha : Words after) (n : ℕ) where
+module _ (c : Circuit) (before after : List ℕ) (hb : AllWords before) (ha : AllWords after) (n : ℕ) where
   lane-at : (L : ℕ) → L < lanes → IsLane L (wordTraceAt c before after n) (traceAt c (laneOf L before after) n)
   lane-at L h = words-lane L h c before after hb ha n
 

@@ -1,6 +1,6 @@
 -- The frames and the time-by-time machine agree: for every circuit, whatever drives its inputs, on every net, at every time.
 -- A net that does not exist is at level 0 always, by its frames and in the machine.
--- `proofs/Agreement` proves this record.
+-- `agreement` in `proofs/Agreement` proves it.
 use Prim.Native.Nat.{ℕ, zero, suc, _+_, _-_, _*_, _≤_}
 use mathlib.Core.Path.{_≡_}
 use mathlib.Core.Logic.{_≢_}
@@ -32,7 +32,7 @@ pub record Agreement : Type 0 where
   -- from time 1 on, the level changes only at a potential time
   pub changes-at-times : (c : Circuit) (s : Stimuli) (n t : ℕ) → levelAt c s n (suc t) ≢ levelAt c s n t → potential c n (suc t) ≡ true
   -- the count of changes is the number of times t from 1 on at which the machine's level differs from that at t - 1:
-  -- of those up to any end that no potential time lies beyond, and beyond it nothing changes
+  -- of those up to any end that no potential time lies beyond; after it, by the line above, there are none
   pub count-is-machine : (c : Circuit) (s : Stimuli) (n end : ℕ) → ((t : ℕ) → potential c n t ≡ true → t ≤ end)
       → changes (traceAt c s n .values) ≡ changedTimes (machine c s n) end
   -- no pattern bit enters the frames

@@ -1,5 +1,7 @@
--- The bench sheet: rows A to J, as the rules give them and as the sheet prints them. `proofs/Bench` settles them together.
+-- The bench sheet: rows A to J, as the rules give them and as the sheet prints them, and with them the wave program's example
+-- and an inertial index of frame 0 other than 0. `rows` in `proofs/Bench` settles them together.
 use Prim.Native.Nat.{ℕ}
+use mathlib.Core.Path.{_≡_}
 use mathlib.Core.Bool.{Bool, true, false}
 use mathlib.Core.List.{List, [], _∷_, map}
 use Rattle.method.specs.declared.Kind.the-variants.{Not, And, Xor}
@@ -8,9 +10,9 @@ use Rattle.method.specs.Circuit.{Circuit}
 use Rattle.method.specs.Stimulus.{Stimuli}
 use Rattle.method.specs.Times.{gateTimes}
 use Rattle.method.specs.Indices.{inertialIndices}
-use Rattle.method.specs.Frames.{faninRow}
+use Rattle.method.specs.Frames.{Frames, faninRow, frames}
 use Rattle.method.specs.Filter.{filtered}
-use Rattle.method.specs.Traces.{traceAt}
+use Rattle.method.specs.Traces.{Trace, traces, traceAt}
 
 pub record Sheet : Type 0 where
   pub A : List ℕ
@@ -23,6 +25,10 @@ pub record Sheet : Type 0 where
   pub H : List Bool
   pub I : List Bool
   pub J : Bool
+  -- net by net, the example's times and levels
+  pub waveTimes : List (List ℕ)
+  pub waveLevels : List (List Bool)
+  pub frame0 : List ℕ
 
 abbrev lo : Bool
 lo = false
@@ -38,7 +44,7 @@ twoFanins = (0 ∷ 3 ∷ 4 ∷ []) ∷ (0 ∷ 2 ∷ 6 ∷ []) ∷ []
 abbrev filteredAt : ℕ → List ℕ → List Bool → List Bool
 filteredAt di times raw = filtered (inertialIndices di times) raw
 
--- the wave program's example with inertial delay di on net 2, its input going from 0 to 1
+-- the wave program's example, with inertial delay di on net 2 (1 in the example), its input going from 0 to 1
 abbrev waveCircuit : ℕ → Circuit
 waveCircuit di =
     record {
@@ -65,6 +71,9 @@ byRule =
       H = filteredAt 2 (0 ∷ 5 ∷ 6 ∷ 7 ∷ []) (lo ∷ hi ∷ hi ∷ lo ∷ []);
       I = traceAt (waveCircuit 2) up 2 .values;
       J = gateFn Xor (hi ∷ hi ∷ hi ∷ []);
+      waveTimes = map (λ (f : Frames). f .times) (frames (waveCircuit 1));
+      waveLevels = map (λ (n : Trace). n .values) (traces (waveCircuit 1) up);
+      frame0 = inertialIndices 5 (0 ∷ 2 ∷ []);
     }
 
 unfoldable pub asPrinted : Sheet
@@ -80,4 +89,10 @@ asPrinted =
       H = lo ∷ lo ∷ lo ∷ lo ∷ [];
       I = lo ∷ lo ∷ lo ∷ [];
       J = lo;
+      waveTimes = (0 ∷ 1 ∷ []) ∷ (0 ∷ 3 ∷ []) ∷ (0 ∷ 2 ∷ 4 ∷ []) ∷ [];
+      waveLevels = (lo ∷ hi ∷ []) ∷ (hi ∷ lo ∷ []) ∷ (lo ∷ hi ∷ lo ∷ []) ∷ [];
+      frame0 = 1 ∷ 0 ∷ [];
     }
+
+abbrev pub Settled : Type 0
+Settled = byRule ≡ asPrinted

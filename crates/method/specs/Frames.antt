@@ -15,7 +15,7 @@ pub record Frames : Type 0 where
 
 -- inputs count as di = 0 and have no fan-ins
 abbrev pub inputFrames : Frames
-inputFrames = record { times = inputTimes; inertial = 0 ∷ 0 ∷ []; rows = [] }
+inputFrames = record { times = inputTimes; inertial = inertialIndices 0 inputTimes; rows = [] }
 
 -- the fan-in indices at a frame of time t
 abbrev pub faninRow : ℕ → List (List ℕ) → ℕ → List ℕ

@@ -1,12 +1,12 @@
--- The frames, the traces and the machine as equations by net number over the finished nets of a circuit without feedback.
+-- The frames, the traces and the machine as equations by net number over the finished nets of a circuit.
 -- So nothing hides behind `nets`, nor behind what stands for a net or a frame that does not exist.
--- `proofs/Netwise` proves these records.
+-- `net-by-net` in `proofs/Netwise` proves it.
 use Prim.Native.Nat.{ℕ, suc, _+_, _-_, _<_}
 use mathlib.Core.Path.{_≡_}
-use mathlib.Core.Bool.{Bool, false, cond}
+use mathlib.Core.Bool.{Bool, true, false, cond}
 use mathlib.Core.List.{List, [], _∷_, map}
 use lib.ListN.{length, getD}
-use Rattle.method.specs.Kinds.{gateFn}
+use Rattle.method.specs.Kinds.{gateFn, takes}
 use Rattle.method.specs.Circuit.{Circuit, gateAt, NoFeedback}
 use Rattle.method.specs.Nets.{nets}
 use Rattle.method.specs.Stimulus.{Stimuli}
@@ -37,16 +37,24 @@ module _ (c : Circuit) (j : ℕ) where
 
 -- ---- the nets: I inputs and G gates, and gate j drives net I + j
 
-pub record Netwise (c : Circuit) : Type 0 where
+pub record EveryNet (c : Circuit) : Type 0 where
   -- there are exactly I + G nets
   pub frames-count : length (frames c) ≡ c .inputs + length (c .gates)
   pub traces-count : (s : Stimuli) → length (traces c s) ≡ c .inputs + length (c .gates)
   pub waves-count : (s : Stimuli) → length (waves c s) ≡ c .inputs + length (c .gates)
-  -- input i
-  pub input-frames : (i : ℕ) → i < c .inputs → framesAt c i ≡ inputFrames
+  -- input i: its frames, its values, and its out in the machine
+  pub input-times : (i : ℕ) → i < c .inputs → framesAt c i .times ≡ 0 ∷ 1 ∷ []
+  pub input-inertial : (i : ℕ) → i < c .inputs → framesAt c i .inertial ≡ 0 ∷ 0 ∷ []
+  pub input-rows : (i : ℕ) → i < c .inputs → framesAt c i .rows ≡ []
   pub input-values : (s : Stimuli) (i : ℕ) → i < c .inputs → traceAt c s i .values ≡ s i .before ∷ s i .after ∷ []
   pub input-first : (s : Stimuli) (i : ℕ) → i < c .inputs → machine c s i 0 ≡ s i .before
   pub input-later : (s : Stimuli) (i t : ℕ) → i < c .inputs → machine c s i (suc t) ≡ s i .after
+  -- each frame of a net has one value, and a fan-in index names a frame of the fan-in
+  pub value-each : (s : Stimuli) (n : ℕ) → length (traceAt c s n .values) ≡ length (framesAt c n .times)
+  pub index-within : (d n t : ℕ) → faninIndex d (framesAt c n .times) t < length (framesAt c n .times)
+
+-- of a circuit without feedback
+pub record EveryGate (c : Circuit) : Type 0 where
   -- the frames of gate j: times, inertial indices, fan-in rows
   pub gate-times : (j : ℕ) → j < length (c .gates) → framesAt c (c .inputs + j) .times ≡ gateTimes (gateAt c j .delay) (faninTimesOf c j)
   pub gate-inertial : (j : ℕ) → j < length (c .gates)
@@ -62,17 +70,12 @@ pub record Netwise (c : Circuit) : Type 0 where
   pub gate-later : (s : Stimuli) (j t : ℕ) → j < length (c .gates)
       → machine c s (c .inputs + j) (suc t)
       ≡ cond (settled (gateAt c j .inertial) (machineRaw c j s) (suc t)) (machineRaw c j s (suc t)) (machine c s (c .inputs + j) t)
-
--- ---- no lookup falls on a default
-
-pub record NoDefault (c : Circuit) : Type 0 where
   -- whatever stands for a net that does not exist, the nets are the same
   pub any-frames : (other : Frames) → nets other gateFrames (λ (i : ℕ). inputFrames) c ≡ frames c
   pub any-trace : (s : Stimuli) (other : Trace) → nets other gateTrace (λ (i : ℕ). inputTrace (s i)) c ≡ traces c s
   pub any-wave : (s : Stimuli) (other : Wave) → nets other gateWave (λ (i : ℕ). inputWave (s i)) c ≡ waves c s
-  -- each frame has one value, and a fan-in index names a frame of the fan-in
-  pub value-each : (s : Stimuli) (n : ℕ) → length (traceAt c s n .values) ≡ length (framesAt c n .times)
-  pub index-within : (d n t : ℕ) → faninIndex d (framesAt c n .times) t < length (framesAt c n .times)
+  -- where the kind takes as many fan-ins as there are, there is the first one, which BUF and NOT read
+  pub some-fanin : (j : ℕ) → takes (gateAt c j .kind) (length (gateAt c j .fanins)) ≡ true → 0 < length (gateAt c j .fanins)
 
 abbrev pub NetByNet : Type 0
-NetByNet = (c : Circuit) → NoFeedback c → Netwise c × NoDefault c
+NetByNet = (c : Circuit) → EveryNet c × (NoFeedback c → EveryGate c)
