@@ -11,7 +11,7 @@ use native.Mathlib.Omega.{arith}
 use lib.ListN.{take}
 use borrow.Author.Tests.{le-leb}
 use Rattle.lists.specs.Tables.{allSame}
-use Rattle.lists.proofs.Choices.{either, order, bool-ext, and-left, and-right}
+use Rattle.lists.proofs.Choices.{either, order, bool-ext, and-left, and-right, beq-true, beq-refl}
 use Rattle.lists.proofs.Tabled.{every-from, from-every}
 use Rattle.method.specs.Indices.{upTo, inertialIndices}
 use Rattle.method.specs.Filter.{keep, filterFrom, filtered}
@@ -19,16 +19,6 @@ use Rattle.method.specs.Machine.{Wave, settled, outWave}
 use Rattle.method.proofs.Rising.{Rise, Starts}
 use Rattle.method.proofs.Lasting.{upTo-low}
 use Rattle.method.proofs.Waves.{Steady, gap, steady-tail}
-
-beq-true : (a b : Bool) → Bool·beq a b ≡ true → a ≡ b
-beq-true true true e = refl
-beq-true true false e = sym e
-beq-true false true e = e
-beq-true false false e = refl
-
-pub beq-refl : (a : Bool) → Bool·beq a a ≡ true
-beq-refl true = refl
-beq-refl false = refl
 
 cond-same : (b x : Bool) → cond b x x ≡ x
 cond-same true x = refl

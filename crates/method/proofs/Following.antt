@@ -17,7 +17,7 @@ use Rattle.method.specs.Times.{inputTimes, shifted, rising, gateTimes, a
 use Rattle.method.specs.Indices.{faninIndex, inertialIndices}
 use Rattle.method.specs.Frames.{Frames, faninRow, framesWith, gateFrames}
 use Rattle.method.specs.Filter.{filtered}
-use Rattle.method.specs.Traces.{Trace, inputTrace, rawValue, traceWith, gateTrace, noTrace, traces, traceAt}
+use Rattle.method.specs.Traces.{Trace, inputTrace, rawValue, gateTrace, noTrace, traces, traceAt}
 use Rattle.method.specs.Look.{level}
 use Rattle.method.specs.Machine.{Wave, inputWave, rawWave, outWave, gateWave, noWave, waves, machine}
 use Rattle.method.proofs.Nets.{nets-rel}
@@ -95,7 +95,7 @@ raw-values g {ns} {ws} r ts =
     ∙ ap (λ (f : ℕ → Bool). map f ts) (fun-ext (λ t. ap (gateFn (g .kind)) (row-values (g .delay) t r)))
 
 pub gate-follows : (g : Gate) (ns : List Trace) (ws : List Wave) → Forall₂ Follows ns ws → Follows (gateTrace g ns) (gateWave g ws)
-unfolding gateTrace traceWith gateFrames framesWith
+unfolding gateTrace gateFrames framesWith
 gate-follows g ns ws r =
     rw (map-map (λ (f : Frames). f .times) (λ (n : Trace). n .frames) ns)
     (filtered-follows (g .inertial) _ (rawWave g ws) _ refl (gateTimes-start (g .delay) (timesOf ns)) (raw-steady g r)

@@ -9,10 +9,10 @@ use Rattle.method.specs.Kinds.{gateFn}
 use Rattle.method.specs.Circuit.{Circuit, gateAt, NoFeedback}
 use Rattle.method.specs.Stimulus.{Stimuli}
 use Rattle.method.specs.Times.{gateTimes}
-use Rattle.method.specs.Indices.{faninIndex}
+use Rattle.method.specs.Indices.{faninIndex, inertialIndices}
 use Rattle.method.specs.Frames.{Frames, inputFrames, faninRow, framesWith, gateFrames, noFrames, frames, framesAt}
 use Rattle.method.specs.Filter.{filtered}
-use Rattle.method.specs.Traces.{Trace, inputTrace, rawValue, traceWith, gateTrace, noTrace, traces, traceAt}
+use Rattle.method.specs.Traces.{Trace, inputTrace, rawValue, gateTrace, noTrace, traces, traceAt}
 use Rattle.method.specs.Machine.{Wave, inputWave, outWave, gateWave, noWave, settled, waves, machine}
 use Rattle.method.specs.Netwise.{faninTimesOf, rawOf, machineRaw, EveryNet, EveryGate, NetByNet}
 use Rattle.method.proofs.Taking.{takes-range}
@@ -38,6 +38,14 @@ module _ (c : Circuit) (ok : NoFeedback c) (j : ℕ) (h : j < length (c .gates))
   frames-with : framesAt c (c .inputs + j) ≡ framesWith (gateAt c j) (faninTimesOf c j) (framesAt c (c .inputs + j) .times)
   frames-with = frames-of ∙ ap (framesWith (gateAt c j) (faninTimesOf c j)) (sym times-of)
 
+  inertial-of : framesAt c (c .inputs + j) .inertial ≡ inertialIndices (gateAt c j .inertial) (framesAt c (c .inputs + j) .times)
+  unfolding framesWith
+  inertial-of = ap (λ (f : Frames). f .inertial) frames-with
+
+  rows-of : framesAt c (c .inputs + j) .rows ≡ map (faninRow (gateAt c j .delay) (faninTimesOf c j)) (framesAt c (c .inputs + j) .times)
+  unfolding framesWith
+  rows-of = ap (λ (f : Frames). f .rows) frames-with
+
   -- ---- its values in one lane
 
   module _ (s : Stimuli) where
@@ -56,17 +64,17 @@ module _ (c : Circuit) (ok : NoFeedback c) (j : ℕ) (h : j < length (c .gates))
     values-by : (f : Frames) → f ≡ framesAt c (c .inputs + j)
         → filtered (f .inertial) (map (rawValue (gateAt c j .kind) (map (λ (m : ℕ). traceAt c s m .values) (gateAt c j .fanins))) (f .rows))
         ≡ filtered (framesAt c (c .inputs + j) .inertial) (map (rawOf c j s) (framesAt c (c .inputs + j) .times))
-    unfolding framesWith rawValue
+    unfolding rawValue
     values-by f e =
         let vs : List (List Bool) = map (λ (m : ℕ). traceAt c s m .values) (gateAt c j .fanins) in
         let ts : List ℕ = framesAt c (c .inputs + j) .times in
         rw e (ap (filtered (framesAt c (c .inputs + j) .inertial))
-        (ap (λ (f : Frames). map (rawValue (gateAt c j .kind) vs) (f .rows)) frames-with
+        (ap (map (rawValue (gateAt c j .kind) vs)) rows-of
         ∙ map-map (rawValue (gateAt c j .kind) vs) (faninRow (gateAt c j .delay) (faninTimesOf c j)) ts
         ∙ ap (λ (r : ℕ → Bool). map r ts) (fun-ext (λ t. ap (gateFn (gateAt c j .kind)) (row-of t (gateAt c j .fanins))))))
 
     values-of : traceAt c s (c .inputs + j) .values ≡ filtered (framesAt c (c .inputs + j) .inertial) (map (rawOf c j s) (framesAt c (c .inputs + j) .times))
-    unfolding gateTrace traceWith
+    unfolding gateTrace
     values-of =
         let fanins : List Trace = map (traceAt c s) (gateAt c j .fanins) in
         ap (λ (n : Trace). n .values) trace-of
@@ -120,12 +128,12 @@ module _ (c : Circuit) where
       }
 
   every-gate : NoFeedback c → EveryGate c
-  unfolding frames traces waves framesWith
+  unfolding frames traces waves
   every-gate ok =
       record {
         gate-times = λ j h. times-of c ok j h;
-        gate-inertial = λ j h. ap (λ (f : Frames). f .inertial) (frames-with c ok j h);
-        gate-rows = λ j h. ap (λ (f : Frames). f .rows) (frames-with c ok j h);
+        gate-inertial = λ j h. inertial-of c ok j h;
+        gate-rows = λ j h. rows-of c ok j h;
         gate-values = λ s j h. values-of c ok j h s;
         gate-first = λ s j h. first-of c ok j h s;
         gate-later = λ s j t h. later-of c ok j h s t;

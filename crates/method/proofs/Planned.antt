@@ -2,8 +2,8 @@
 -- Assumes nothing.
 use Prim.Native.Nat.{ℕ, zero, suc, _+_, _-_, _*_, _≤_, zero-le}
 use mathlib.Core.Path.{_≡_, refl, sym, ap, ap₂, _∙_}
-use mathlib.Core.Logic.{_⊎_, inl, inr}
-use mathlib.Core.Bool.{Bool, true, false, _||_, false≢true}
+use mathlib.Core.Logic.{inl, inr}
+use mathlib.Core.Bool.{true, false, false≢true}
 use mathlib.Core.List.{List, [], _∷_, _++_, map, flatMap, Forall₂, Forall₂·nil, Forall₂·cons}
 use native.Mathlib.Omega.{arith}
 use native.Mathlib.Nat.{mul-suc, mul-le-mul-left}
@@ -11,14 +11,14 @@ use lib.Dec.{eqb}
 use lib.ListN.{length, getD, List·getD-eq-default}
 use borrow.Author.Tests.{eqb-true, eq-eqb}
 use Rattle.lists.specs.Tables.{tabulate}
-use Rattle.lists.proofs.Choices.{either, order}
+use Rattle.lists.proofs.Choices.{either, order, or-cases}
 use Rattle.lists.proofs.Tabled.{from-length, tabulate-at}
 use Rattle.lists.proofs.ByNumber.{grow-each}
 use Rattle.method.specs.Circuit.{Gate, Circuit, noGate, DelaysUpTo}
 use Rattle.method.specs.Stimulus.{Stimuli}
 use Rattle.method.specs.Times.{shifted, rising, gateTimes, among}
 use Rattle.method.specs.Frames.{Frames, inputFrames, framesWith, gateFrames, noFrames, frames, framesAt}
-use Rattle.method.specs.Traces.{Trace, inputTrace, traceWith, gateTrace, noTrace, traces, traceAt}
+use Rattle.method.specs.Traces.{Trace, inputTrace, gateTrace, noTrace, traces, traceAt}
 use Rattle.method.proofs.Nets.{nets-rel}
 use Rattle.method.proofs.Rising.{Starts, rising-among, among-append}
 use Rattle.method.proofs.Following.{follows}
@@ -33,7 +33,7 @@ all-frames Forall₂·nil = refl
 all-frames (Forall₂·cons r rs) = ap₂ _∷_ r (all-frames rs)
 
 gate-frames : (g : Gate) (fs : List Frames) (ns : List Trace) → Forall₂ HasFrames fs ns → HasFrames (gateFrames g fs) (gateTrace g ns)
-unfolding gateTrace traceWith
+unfolding gateTrace
 gate-frames g fs ns r = ap (gateFrames g) (all-frames r)
 
 pub frames-are : (c : Circuit) (s : Stimuli) (n : ℕ) → framesAt c n ≡ traceAt c s n .frames
@@ -53,10 +53,6 @@ times-start c n =
 -- no time of the list is after `end`
 abbrev pub Ends : ℕ → List ℕ → Type 0
 Ends end ts = (t : ℕ) → among t ts ≡ true → t ≤ end
-
-or-cases : (a b : Bool) → a || b ≡ true → (a ≡ true) ⊎ (b ≡ true)
-or-cases true b e = inl e
-or-cases false b e = inr e
 
 ends-cons : (end x : ℕ) (ts : List ℕ) → x ≤ end → Ends end ts → Ends end (x ∷ ts)
 ends-cons end x ts h k t e =

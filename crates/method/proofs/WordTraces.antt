@@ -15,7 +15,7 @@ use Rattle.method.specs.Circuit.{Gate, Circuit}
 use Rattle.method.specs.Nets.{nets}
 use Rattle.method.specs.Frames.{Frames, inputFrames, gateFrames, noFrames, framesAt}
 use Rattle.method.specs.Filter.{filterFrom, filtered}
-use Rattle.method.specs.Traces.{Trace, inputTrace, rawValue, traceWith, gateTrace, noTrace, traces, traceAt}
+use Rattle.method.specs.Traces.{Trace, inputTrace, rawValue, gateTrace, noTrace, traces, traceAt}
 use Rattle.method.specs.Words.{lanes, lane, pack}
 use Rattle.method.specs.Packed.{laneOf, packedWord, packedValues}
 use Rattle.method.proofs.Nets.{nets-rel}
@@ -46,12 +46,11 @@ abbrev pub wordFiltered : List ℕ → List ℕ → List ℕ
 wordFiltered ks [] = []
 wordFiltered ks (r ∷ rs) = r ∷ wordFilterFrom r (drop 1 ks) rs
 
-unfoldable pub wordTraceWith : Kind → List (List ℕ) → Frames → WordTrace
-wordTraceWith k faninWords f = record { frames = f; words = wordFiltered (f .inertial) (map (wordRaw k faninWords) (f .rows)) }
-
 unfoldable pub wordGateTrace : Gate → List WordTrace → WordTrace
 wordGateTrace g fanins =
-    wordTraceWith (g .kind) (map (λ (f : WordTrace). f .words) fanins) (gateFrames g (map (λ (f : WordTrace). f .frames) fanins))
+    let own : Frames = gateFrames g (map (λ (f : WordTrace). f .frames) fanins) in
+    let raw : List ℕ = map (wordRaw (g .kind) (map (λ (f : WordTrace). f .words) fanins)) (own .rows) in
+    record { frames = own; words = wordFiltered (own .inertial) raw }
 
 abbrev pub noWordTrace : WordTrace
 noWordTrace = record { frames = noFrames; words = 0 ∷ [] }
@@ -138,7 +137,7 @@ module _ (L : ℕ) where
     raw-lane k row {ms} r = wordFn-lane L h k (pointed row ms) (pointed-words row r) ∙ rw (pointed-lane row r)
 
     gate-lane : (g : Gate) (ms : List WordTrace) (ns : List Trace) → Forall₂ IsLane ms ns → IsLane (wordGateTrace g ms) (gateTrace g ns)
-    unfolding wordGateTrace wordTraceWith gateTrace traceWith
+    unfolding wordGateTrace gateTrace
     gate-lane g ms ns r =
         record {
           same-frames = rw (all-same-frames r);

@@ -24,14 +24,12 @@ inputTrace s = record { frames = inputFrames; values = s .before ∷ s .after �
 unfoldable pub rawValue : Kind → List (List Bool) → List ℕ → Bool
 rawValue k faninValues row = gateFn k (zipWith (λ (i : ℕ) (vs : List Bool). getD vs i false) row faninValues)
 
--- a gate with these frames, from the values of its fan-ins
-unfoldable pub traceWith : Kind → List (List Bool) → Frames → Trace
-traceWith k faninValues f = record { frames = f; values = filtered (f .inertial) (map (rawValue k faninValues) (f .rows)) }
-
--- a gate, from the traces of its fan-ins
+-- a gate, from the traces of its fan-ins: its raw values, filtered
 unfoldable pub gateTrace : Gate → List Trace → Trace
 gateTrace g fanins =
-    traceWith (g .kind) (map (λ (f : Trace). f .values) fanins) (gateFrames g (map (λ (f : Trace). f .frames) fanins))
+    let own : Frames = gateFrames g (map (λ (f : Trace). f .frames) fanins) in
+    let raw : List Bool = map (rawValue (g .kind) (map (λ (f : Trace). f .values) fanins)) (own .rows) in
+    record { frames = own; values = filtered (own .inertial) raw }
 
 -- stands for a net that does not exist
 abbrev pub noTrace : Trace
