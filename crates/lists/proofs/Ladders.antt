@@ -1,6 +1,6 @@
 -- Ladders of questions: joined ladders, and what an acceptance or a refusal says.
 -- Assumes nothing.
-use Prim.Native.Nat.{ℕ, zero, suc}
+use Prim.Native.Nat.{ℕ, zero, suc, _≤_}
 use mathlib.Core.Path.{_≡_, refl, sym}
 use mathlib.Core.Bool.{Bool, true, false, cond}
 use mathlib.Core.List.{List, [], _∷_, _++_}
@@ -20,20 +20,33 @@ pub first-none : (m n : ℕ) → first m n ≡ 0 → (m ≡ 0) × (n ≡ 0)
 first-none zero n e = (refl, e)
 first-none (suc m) n e = absurd (omega arith)
 
--- questions with numbers above 0
-abbrev pub Numbered : List Question → Type 0
-Numbered [] = Unit {0}
-Numbered (q ∷ qs) = (q .number ≡ 0 → ⊥) × Numbered qs
+-- questions with numbers from 1 to `most`
+abbrev pub Numbered : ℕ → List Question → Type 0
+Numbered most [] = Unit {0}
+Numbered most (q ∷ qs) = (1 ≤ q .number) × (q .number ≤ most) × Numbered most qs
+
+pub numbered-append : (most : ℕ) (ps qs : List Question) → Numbered most ps → Numbered most qs → Numbered most (ps ++ qs)
+numbered-append most [] qs h k = k
+numbered-append most (p ∷ ps) qs h k = (h .0, h .1, numbered-append most ps qs (h .2) k)
+
+pub first-most : (most : ℕ) (qs : List Question) → Numbered most qs → firstNo qs ≤ most
+unfolding firstNo
+first-most most [] h = omega arith
+first-most most (q ∷ qs) h = go (first-most most qs (h .2)) (q .yes)
+  where
+    go : firstNo qs ≤ most → (b : Bool) → cond b (firstNo qs) (q .number) ≤ most
+    go rest true = rest
+    go rest false = h .1
 
 -- ladders asked one after the other
-pub firstNo-append : (ps qs : List Question) → Numbered ps → firstNo (ps ++ qs) ≡ first (firstNo ps) (firstNo qs)
+pub firstNo-append : (most : ℕ) (ps qs : List Question) → Numbered most ps → firstNo (ps ++ qs) ≡ first (firstNo ps) (firstNo qs)
 unfolding firstNo
-firstNo-append [] qs h = refl
-firstNo-append (p ∷ ps) qs h = go (firstNo-append ps qs (h .1)) (p .yes)
+firstNo-append most [] qs h = refl
+firstNo-append most (p ∷ ps) qs h = go (firstNo-append most ps qs (h .2)) (p .yes)
   where
     go : firstNo (ps ++ qs) ≡ first (firstNo ps) (firstNo qs) → (b : Bool) → cond b (firstNo (ps ++ qs)) (p .number) ≡ first (cond b (firstNo ps) (p .number)) (firstNo qs)
     go rest true = rest
-    go rest false = sym (first-here (p .number) (firstNo qs) (h .0))
+    go rest false = sym (first-here (p .number) (firstNo qs) (λ e. omega (arith, h .0)))
 
 -- no "no" in a ladder: the first question is answered yes, and there is none in the rest
 pub asked : (b : Bool) (n : ℕ) (qs : List Question) → (n ≡ 0 → ⊥) → firstNo ((b orElse n) ∷ qs) ≡ 0 → (b ≡ true) × (firstNo qs ≡ 0)
@@ -67,3 +80,9 @@ pub unless-some : {A : Type 0} (n : ℕ) (values : A) → (n ≡ 0 → ⊥) → 
 unfolding unless
 unless-some zero values h = absurd (h refl)
 unless-some (suc n) values h = refl
+
+-- a refusal: its number is that of the first "no"
+pub refused-some : {A : Type 0} (n : ℕ) (values : A) {m : ℕ} → unless n values ≡ refused m → (n ≡ m) × (1 ≤ m)
+unfolding unless
+refused-some zero values e = absurd (let z : _≡_ {A = ℕ} 0 1 = cc in omega arith)
+refused-some (suc n) values {m} e = let q : suc n ≡ m = cc in (q, omega arith)

@@ -2,6 +2,7 @@
 pub mod Choices
 pub mod Ladders
 pub mod Tabled
+pub mod Leading
 pub mod Zeros
 pub mod Storing
 pub mod Padding

@@ -2,7 +2,7 @@
 -- Assumes nothing.
 use Prim.Native.Nat.{ℕ, zero, suc, _+_, _-_, _≤_, _<_}
 use mathlib.Core.Path.{_≡_, refl, sym, ap, ap₂, _∙_}
-use mathlib.Core.Bool.{Bool, true}
+use mathlib.Core.Bool.{Bool, true, _&&_, and-true, and-assoc}
 use mathlib.Core.List.{List, [], _∷_, _++_, map}
 use native.Mathlib.Omega.{arith}
 use native.Mathlib.Nat.{add-zero}
@@ -66,3 +66,14 @@ module _ {A : Type 0} (p : A → Bool) (f : ℕ → A) where
   from-every zero j h = refl
   from-every (suc n) j h =
       and-both (p (f j)) (every (map p (tabulateFrom n (suc j) f))) (h j (omega arith) (omega arith)) (from-every n (suc j) (λ k a b. h k (omega arith) (omega arith)))
+
+-- a test that every entry of a list passes: one entry more, and any entry
+module _ {A : Type 0} (p : A → Bool) where
+  pub every-snoc : (xs : List A) (x : A) → every (map p (xs ++ (x ∷ []))) ≡ every (map p xs) && p x
+  every-snoc [] x = and-true (p x)
+  every-snoc (y ∷ xs) x = ap (λ (b : Bool). p y && b) (every-snoc xs x) ∙ sym (and-assoc (p y) (every (map p xs)) (p x))
+
+  pub every-at : (xs : List A) → every (map p xs) ≡ true → (none : A) → p none ≡ true → (n : ℕ) → p (getD xs n none) ≡ true
+  every-at [] e none d n = d
+  every-at (x ∷ xs) e none d zero = and-left (p x) (every (map p xs)) e
+  every-at (x ∷ xs) e none d (suc n) = every-at xs (and-right (p x) (every (map p xs)) e) none d n

@@ -1,9 +1,12 @@
-// Clearing and storing in a lent area, and a test that many questions ask. The crate's definitions and laws on
+// Clearing and storing in a lent area, a search in a row of numbers, and a test that many questions ask. The crate's definitions and laws on
 // lists serve every other crate.
 ghost use mathlib.Core.Path.{_≡_};
+ghost use Prim.Native.Nat.{_+_};
+ghost use lib.ListN.{drop};
 ghost use lib.Seq.{sets};
 ghost use Rattle.lists.specs.Areas.{cleared};
 ghost use Rattle.lists.specs.Ladder.{between};
+ghost use Rattle.lists.specs.Tables.{leading};
 
 // Sets every number of the area to 0.
 pub fn clear(area: &mut [u16])
@@ -42,6 +45,20 @@ pub fn store(area: &mut [u16], at: usize, row: &[u16])
         area[at + k] = row[k];
         k += 1;
     }
+}
+
+// The first place from `from` on whose number is above the limit, or the end where there is none.
+pub fn first_above(row: &[u16], from: usize, limit: u16) -> usize
+    ensures { λ r. ⌜ r ≡ from + leading limit (drop from (now (row .entry))) ⌝ }
+{
+    let mut k = from;
+    while k < row.len() {
+        if limit < row[k] {
+            return k;
+        }
+        k += 1;
+    }
+    k
 }
 
 // Whether n is from least to most.

@@ -7,6 +7,7 @@ use mathlib.Core.List.{List, [], _∷_}
 use native.Mathlib.Omega.{arith}
 use lib.ListN.{length, getD, drop}
 use borrow.Author.Tests.{le-leb, lt-leb}
+use Rattle.lists.specs.Tables.{leading}
 use Rattle.lists.proofs.Choices.{order}
 use Rattle.method.specs.Indices.{lastFrom, lastFrame, faninIndex, upTo}
 use Rattle.method.proofs.Rising.{Rise, Starts, rise-lower}
@@ -23,6 +24,26 @@ upTo-most e (t ∷ ts) =
     elim (order t e) [
       | inl h ↦ rw (le-leb t e h) (omega (arith, upTo-most e ts))
       | inr h ↦ rw (lt-leb t e h) (omega (arith, upTo-most e ts))
+    ]
+
+-- of later ends, no fewer
+upTo-mono : (a b : ℕ) → a ≤ b → (ts : List ℕ) → upTo a ts ≤ upTo b ts
+upTo-mono a b h [] = omega arith
+upTo-mono a b h (t ∷ ts) =
+    let rest = upTo-mono a b h ts in
+    elim (order t a) [
+      | inl k ↦ rw (le-leb t a k, le-leb t b (omega arith)) (omega arith)
+      | inr k ↦ elim (order t b) [ inl m ↦ rw (lt-leb t a k, le-leb t b m) (omega arith) | inr m ↦ rw (lt-leb t a k, lt-leb t b m) rest ]
+    ]
+
+-- where they rise, those at the front are all
+pub leading-all : (p e : ℕ) (ts : List ℕ) → Rise p ts → leading e ts ≡ upTo e ts
+unfolding leading
+leading-all p e [] r = refl
+leading-all p e (t ∷ ts) r =
+    elim (order t e) [
+      | inl h ↦ rw (le-leb t e h) (ap suc (leading-all t e ts (r .1)))
+      | inr h ↦ rw (lt-leb t e h) (sym (upTo-low e ts (rise-lower ts (omega arith) (r .1))))
     ]
 
 -- k of them, if the k-th is at most e and the next, if there is one, is not
@@ -56,6 +77,15 @@ last-from k p (s ∷ ss) t r =
 pub last-count : (ss : List ℕ) (t : ℕ) → Starts ss → lastFrame ss t ≡ upTo t (drop 1 ss)
 last-count [] t r = absurd r
 last-count (s ∷ ss) t r = rw (le-leb s t (omega arith)) (last-from 0 s ss t (r .1) ∙ omega arith)
+
+-- so it is found by a search for the first later frame
+pub last-leading : (ss : List ℕ) (t : ℕ) → Starts ss → lastFrame ss t ≡ leading t (drop 1 ss)
+last-leading [] t r = absurd r
+last-leading (s ∷ ss) t r = last-count (s ∷ ss) t r ∙ sym (leading-all s t ss (r .1))
+
+-- at a later time it is no earlier frame
+pub last-mono : (ss : List ℕ) (a b : ℕ) → Starts ss → a ≤ b → lastFrame ss a ≤ lastFrame ss b
+last-mono ss a b r h = rw (last-count ss a r, last-count ss b r) (upTo-mono a b h (drop 1 ss))
 
 -- it is a frame
 pub last-within : (ss : List ℕ) (t : ℕ) → Starts ss → lastFrame ss t < length ss

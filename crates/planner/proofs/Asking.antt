@@ -1,0 +1,37 @@
+-- Question 10 and the clearing of all areas, as the functions do them.
+-- Assumes nothing.
+use Prim.Native.Nat.{ℕ}
+use mathlib.Core.Path.{_≡_}
+use mathlib.Core.Bool.{false}
+use mathlib.Core.List.{List}
+use lib.Dec.{eqb}
+use lib.ListN.{length}
+use borrow.Author.Tests.{eq-eqb, ne-eqb}
+use Rattle.lists.specs.Areas.{cleared}
+use Rattle.planner.specs.Limits.{directoryLength, frameLength, faninLength}
+use Rattle.planner.specs.Areas.{areas, allCleared}
+use Rattle.planner.specs.Questions.{areasSuit}
+
+module _ (d t i f : List ℕ) where
+  pub directory-no : (length d ≡ directoryLength → ⊥) → false ≡ areasSuit (areas d t i f)
+  unfolding areasSuit
+  directory-no n = rw (ne-eqb _ _ n)
+
+  module _ (y1 : length d ≡ directoryLength) where
+    pub times-no : (length t ≡ frameLength → ⊥) → false ≡ areasSuit (areas d t i f)
+    unfolding areasSuit
+    times-no n = simp (eq-eqb _ _ y1, ne-eqb _ _ n)
+
+    module _ (y2 : length t ≡ frameLength) where
+      pub inertial-no : (length i ≡ frameLength → ⊥) → false ≡ areasSuit (areas d t i f)
+      unfolding areasSuit
+      inertial-no n = simp (eq-eqb _ _ y1, eq-eqb _ _ y2, ne-eqb _ _ n)
+
+      pub fanins-last : length i ≡ frameLength → eqb (length f) faninLength ≡ areasSuit (areas d t i f)
+      unfolding areasSuit
+      fanins-last y3 = simp (eq-eqb _ _ y1, eq-eqb _ _ y2, eq-eqb _ _ y3)
+
+pub all-cleared : (d t i f : List ℕ) {d′ t′ i′ f′ : List ℕ} → d′ ≡ cleared d → t′ ≡ cleared t → i′ ≡ cleared i → f′ ≡ cleared f
+    → areas d′ t′ i′ f′ ≡ allCleared (areas d t i f)
+unfolding allCleared
+all-cleared d t i f a b c g = cc

@@ -1,0 +1,156 @@
+-- The loops over a gate's frames: an index stored a turn. Hints say where the search for a fan-in's frame may start.
+-- Assumes nothing.
+use Prim.Native.Nat.{ℕ, zero, suc, _+_, _-_, _*_, _<_, _≤_}
+use mathlib.Core.Path.{_≡_, refl, sym, ap, ap₂, _∙_}
+use mathlib.Core.Bool.{true}
+use mathlib.Core.List.{List, [], _∷_, _++_, map, flatMap}
+use native.Mathlib.Omega.{arith}
+use native.Mathlib.Nat.{add-zero, add-suc, suc-mul, mul-le-mul-right}
+use native.Mathlib.Numerals.{add-one}
+use lib.ListN.{length, getD, drop, set, replicate, length-drop, length-map, drop-of-length-le}
+use lib.Seq.{sets, drop-cons, drop-drop, getD-set-same, getD-set-other}
+use Rattle.lists.specs.Tables.{leading}
+use Rattle.lists.proofs.Choices.{less, same, more, tri}
+use Rattle.lists.proofs.Leading.{leading-most, leading-skip}
+use Rattle.method.specs.Times.{startAndRise}
+use Rattle.method.specs.Indices.{lastFrame, faninIndex, upTo, inertialIndices}
+use Rattle.method.specs.Frames.{faninRow}
+use Rattle.method.proofs.Rising.{Rise, Starts, test-starts}
+use Rattle.method.proofs.Lasting.{leading-all, last-leading, last-mono, last-within, index-last}
+use Rattle.circuit.specs.File.{faninAt}
+use Rattle.planner.specs.Steps.{Below, span, spans}
+use Rattle.planner.proofs.Spans.{spans-length, spans-at, spans-next}
+
+-- ---- a gate's own times rise
+
+rise-drop : (p : ℕ) (ts : List ℕ) → Rise p ts → (k : ℕ) → k < length ts → Rise (getD ts k 0) (drop (suc k) ts)
+rise-drop p [] r k h = absurd (omega arith)
+rise-drop p (t ∷ ts) r zero h = r .1
+rise-drop p (t ∷ ts) r (suc k) h = rise-drop t ts (r .1) k (omega arith)
+
+starts-drop : (ts : List ℕ) → Starts ts → (k : ℕ) → k < length ts → Rise (getD ts k 0) (drop (suc k) ts)
+starts-drop [] r k h = absurd r
+starts-drop (t ∷ ts) r zero h = r .1
+starts-drop (t ∷ ts) r (suc k) h = rise-drop t ts (r .1) k (omega arith)
+
+-- the next of them is later
+pub own-next : (ts : List ℕ) → startAndRise ts ≡ true → (k : ℕ) → k + 1 < length ts → getD ts k 0 ≤ getD ts (k + 1) 0
+own-next ts e k h =
+    let r : Rise (getD ts k 0) (getD ts (suc k) 0 ∷ drop (suc (suc k)) ts) = rw (drop-cons ts (suc k) 0 (omega arith)) at (starts-drop ts (test-starts ts e) k (omega arith)) in
+    rw (add-one k) (omega (arith, r .0))
+
+-- ---- inertial indices: those from frame k on are still to be stored
+
+module _ (ts : List ℕ) (di k first : ℕ) (f : List ℕ) {w : List ℕ} (h : w ≡ sets f (first + k) (inertialIndices di (drop k ts))) where
+  pub inertial-on : startAndRise ts ≡ true → k < length ts → {v : ℕ} → v ≡ leading (getD ts k 0 + di) (drop (k + 1) ts)
+      → w ≡ sets (set f (first + k) v) (first + (k + 1)) (inertialIndices di (drop (k + 1) ts))
+  inertial-on e l {v} q =
+      let all : leading (getD ts k 0 + di) (drop (suc k) ts) ≡ upTo (getD ts k 0 + di) (drop (suc k) ts) =
+      leading-all (getD ts k 0) (getD ts k 0 + di) (drop (suc k) ts) (starts-drop ts (test-starts ts e) k l) in
+      let is : v ≡ upTo (getD ts k 0 + di) (drop (suc k) ts) = q ∙ rw (add-one k) all in
+      h ∙ rw (drop-cons ts k 0 l, ← is, add-one k, add-suc first k)
+
+  pub inertial-end : length ts ≤ k → f ≡ w
+  inertial-end l = sym (h ∙ rw (drop-of-length-le ts l))
+
+pub later-few : (e k : ℕ) (ts : List ℕ) → leading e (drop k ts) ≤ length ts
+later-few e k ts = omega (arith, leading-most e (drop k ts), length-drop k ts)
+
+-- ---- one frame of a fan-in
+
+pub found : (ts : List ℕ) (from time : ℕ) → startAndRise ts ≡ true → from ≤ lastFrame ts time → {r : ℕ} → r ≡ (from + 1) + leading time (drop (from + 1) ts) → r - 1 ≡ lastFrame ts time
+found ts from time e l {r} q =
+    let s = test-starts ts e in
+    let all : lastFrame ts time ≡ leading time (drop 1 ts) = last-leading ts time s in
+    let skip : leading time (drop 1 ts) ≡ from + leading time (drop from (drop 1 ts)) = leading-skip time from (drop 1 ts) (omega arith) in
+    let part : drop from (drop 1 ts) ≡ drop (from + 1) ts = drop-drop from 1 ts ∙ ap (λ (n : ℕ). drop n ts) (let p : 1 + from ≡ from + 1 = omega arith in p) in
+    let more : leading time (drop 1 ts) ≡ from + leading time (drop (from + 1) ts) = rw (← part) skip in
+    omega arith
+
+pub found-low : (ts : List ℕ) (time : ℕ) → startAndRise ts ≡ true → lastFrame ts time < length ts
+found-low ts time e = last-within ts time (test-starts ts e)
+
+-- fan-in e of the list is net n, and these are its times
+module _ (file : List ℕ) (list entries : ℕ) (d t : List ℕ) (e : ℕ) (h : e < entries) {n : ℕ} (q : n ≡ faninAt file list e) {s : List ℕ} (p : s ≡ span d t n) where
+  times-at : s ≡ getD (spans file list entries d t) e []
+  times-at = p ∙ rw q (sym (spans-at file list entries d t e h))
+
+  pub next-at : drop e (spans file list entries d t) ≡ s ∷ drop (e + 1) (spans file list entries d t)
+  next-at = spans-next file list entries d t e h q ∙ rw p
+
+  pub hint-at : {time : ℕ} {hints : List ℕ} → Below (spans file list entries d t) time hints → getD hints e 0 ≤ lastFrame s time
+  hint-at b = rw times-at (b .hint e (rw (spans-length file list entries d t) h))
+
+  pub found-at : (time : ℕ) {v : ℕ} → v ≡ lastFrame s time → v ≡ lastFrame (getD (spans file list entries d t) e []) time
+  found-at time g = rw (← times-at) g
+
+-- ---- a row of fan-in indices: those of the fan-ins from e on are still to be stored
+
+module _ (ss : List (List ℕ)) (time at e : ℕ) (f : List ℕ) {w : List ℕ} (h : w ≡ sets f (at + e) (map (λ (s : List ℕ). lastFrame s time) (drop e ss))) where
+  pub row-on : {s : List ℕ} → drop e ss ≡ s ∷ drop (e + 1) ss → {v : ℕ} → v ≡ lastFrame s time → w ≡ sets (set f (at + e) v) (at + (e + 1)) (map (λ (s : List ℕ). lastFrame s time) (drop (e + 1) ss))
+  row-on {s} n {v} q = h ∙ rw (n, ← q) (rw (let p : at + (e + 1) ≡ suc (at + e) = omega arith in p))
+
+  pub row-end : length ss ≤ e → f ≡ w
+  row-end l = sym (h ∙ rw (drop-of-length-le ss l))
+
+-- ---- hints
+
+getD-zeros : (n e : ℕ) → getD (replicate {A = ℕ} n 0) e 0 ≤ 0
+getD-zeros zero e = omega arith
+getD-zeros (suc n) zero = omega arith
+getD-zeros (suc n) (suc e) = getD-zeros n e
+
+pub below-none : (ss : List (List ℕ)) (time n : ℕ) → Below ss time (replicate n 0)
+below-none ss time n = record { hint = λ e l. omega (arith, getD-zeros n e) }
+
+module _ {ss : List (List ℕ)} {time : ℕ} {hints : List ℕ} (b : Below ss time hints) where
+  pub below-more : ((e : ℕ) → e < length ss → Starts (getD ss e [])) → (later : ℕ) → time ≤ later → Below ss later hints
+  below-more start later h = record { hint = λ e l. omega (arith, b .hint e l, last-mono (getD ss e []) time later (start e l) h) }
+
+  pub below-set : (e : ℕ) → e < length hints → {v : ℕ} → v ≡ lastFrame (getD ss e []) time → Below ss time (set hints e v)
+  below-set e h {v} q =
+      record {
+        hint = λ k l.
+            elim (tri k e) [
+              | less m ↦ rw (getD-set-other hints e k v 0 (λ u. omega arith)) (b .hint k l)
+              | same m ↦ rw (m, getD-set-same hints e v 0 h) (omega arith)
+              | more m ↦ rw (getD-set-other hints e k v 0 (λ u. omega arith)) (b .hint k l)
+            ];
+      }
+
+-- ---- all frames of a gate: the rows from frame k on are still to be stored
+
+sets-append : (f : List ℕ) (i : ℕ) (xs ys : List ℕ) → sets f i (xs ++ ys) ≡ sets (sets f i xs) (i + length xs) ys
+sets-append f i [] ys = rw add-zero
+sets-append f i (x ∷ xs) ys = sets-append (set f i x) (suc i) xs ys ∙ rw (let q : suc i + length xs ≡ i + suc (length xs) = omega arith in q)
+
+-- a fan-in row is the row of last frames at t - d
+row-index : (d t : ℕ) (ss : List (List ℕ)) → ((e : ℕ) → e < length ss → Starts (getD ss e [])) → map (λ (s : List ℕ). lastFrame s (t - d)) ss ≡ faninRow d ss t
+row-index d t [] h = refl
+row-index d t (s ∷ ss) h = ap₂ _∷_ (sym (index-last d s t (h 0 (omega arith)))) (row-index d t ss (λ e l. h (suc e) (omega arith)))
+
+module _ (ts : List ℕ) (ss : List (List ℕ)) (d k at : ℕ) (f : List ℕ) {w : List ℕ} (h : w ≡ sets f at (flatMap (faninRow d ss) (drop k ts))) where
+  pub rows-on : ((e : ℕ) → e < length ss → Starts (getD ss e [])) → k < length ts → {time width : ℕ} → time ≡ getD ts k 0 - d → length ss ≡ width
+      → {f′ : List ℕ} → f′ ≡ sets f at (map (λ (s : List ℕ). lastFrame s time) ss) → w ≡ sets f′ (at + width) (flatMap (faninRow d ss) (drop (k + 1) ts))
+  unfolding flatMap
+  rows-on start l {time} {width} e n {f′} g =
+      let row : map (λ (s : List ℕ). lastFrame s time) ss ≡ faninRow d ss (getD ts k 0) = rw e (row-index d (getD ts k 0) ss start) in
+      let size : length (faninRow d ss (getD ts k 0)) ≡ width = length-map ss (λ (s : List ℕ). faninIndex d s (getD ts k 0)) ∙ n in
+      h ∙ rw (drop-cons ts k 0 l, add-one k) (sets-append f at (faninRow d ss (getD ts k 0)) (flatMap (faninRow d ss) (drop (suc k) ts)) ∙ rw (size, ← row, ← g))
+
+  pub rows-end : length ts ≤ k → f ≡ w
+  unfolding flatMap
+  rows-end l = sym (h ∙ rw (drop-of-length-le ts l))
+
+-- places in the area
+pub room-on : (first n k w m p : ℕ) → p ≡ first + k * w → first + n * w ≤ m → k < n → p + w ≤ m
+room-on first n k w m p e h b =
+    let q : suc k * w ≤ n * w = mul-le-mul-right w b in
+    let r : suc k * w ≡ k * w + w = suc-mul k w in
+    omega arith
+
+pub place-on : (first k w p : ℕ) → p ≡ first + k * w → p + w ≡ first + (k + 1) * w
+place-on first k w p e =
+    let r : suc k * w ≡ k * w + w = suc-mul k w in
+    let r′ : (k + 1) * w ≡ k * w + w = rw (add-one k) r in
+    omega arith

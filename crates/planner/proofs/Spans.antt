@@ -1,0 +1,78 @@
+-- The times of nets that are planned already, read from the areas.
+-- Assumes nothing.
+use Prim.Native.Nat.{ℕ, zero, suc, _+_, _-_, _*_, _<_, _≤_}
+use mathlib.Core.Path.{_≡_, refl, sym, _∙_}
+use mathlib.Core.List.{List, [], _∷_, map}
+use native.Mathlib.Omega.{arith}
+use native.Mathlib.Numerals.{add-one}
+use lib.ListN.{length, getD, take, drop, length-map, length-drop}
+use lib.Seq.{length-take-le, drop-cons, getD-take, getD-drop}
+use Rattle.lists.specs.Tables.{tabulateFrom, tabulate}
+use Rattle.lists.proofs.Tabled.{from-length, tabulate-at}
+use Rattle.method.specs.Times.{startAndRise}
+use Rattle.method.proofs.Rising.{Starts, test-starts}
+use Rattle.circuit.specs.declared.GateRecord.{GateRecord}
+use Rattle.circuit.specs.File.{faninAt}
+use Rattle.circuit.specs.Limits.{RecordWithin}
+use Rattle.planner.specs.Limits.{mostFrames}
+use Rattle.planner.specs.Steps.{Ready, span, spans, mostTime}
+
+-- ---- one net
+
+-- read by its pair: the numbers from first up to end
+pub span-read : (d t : List ℕ) (n : ℕ) {first end : ℕ} → first ≡ getD d (2 * n) 0 → end ≡ first + getD d (2 * n + 1) 0 → take (end - first) (drop first t) ≡ span d t n
+unfolding span
+span-read d t n {first} {end} p q =
+    let m : end - first ≡ getD d (2 * n + 1) 0 = omega arith in
+    rw (m, p)
+
+map-at : {A B : Type 0} (f : A → B) (xs : List A) (k : ℕ) (a : A) (b : B) → k < length xs → getD (map f xs) k b ≡ f (getD xs k a)
+map-at f [] k a b h = absurd (omega arith)
+map-at f (x ∷ xs) zero a b h = refl
+map-at f (x ∷ xs) (suc k) a b h = map-at f xs k a b (omega arith)
+
+module _ {d t : List ℕ} {net : ℕ} (r : Ready d t net) (n : ℕ) (h : n < net) where
+  pub span-starts : Starts (span d t n)
+  span-starts = test-starts (span d t n) (r .starts n h)
+
+  pub span-length : length (span d t n) ≡ getD d (2 * n + 1) 0
+  unfolding span
+  span-length = length-take-le (getD d (2 * n + 1) 0) (drop (getD d (2 * n) 0) t) (rw length-drop (omega (arith, r .inside n h)))
+
+  pub span-few : length (span d t n) ≤ mostFrames
+  span-few = rw span-length (r .few n h)
+
+  pub span-early : (i : ℕ) → getD (span d t n) i 0 ≤ mostTime
+  unfolding span
+  span-early i = take-early (getD d (2 * n + 1) 0) (drop (getD d (2 * n) 0) t) (λ k. rw (getD-drop (getD d (2 * n) 0) t k 0) (r .early (getD d (2 * n) 0 + k))) i
+    where
+      take-early : (m : ℕ) (l : List ℕ) → ((k : ℕ) → getD l k 0 ≤ mostTime) → (k : ℕ) → getD (take m l) k 0 ≤ mostTime
+      take-early zero l e k = omega arith
+      take-early (suc m) [] e k = omega arith
+      take-early (suc m) (x ∷ xs) e zero = e 0
+      take-early (suc m) (x ∷ xs) e (suc k) = take-early m xs (λ i. e (suc i)) k
+
+-- ---- the fan-ins of a gate
+
+module _ (file : List ℕ) (list entries : ℕ) (d t : List ℕ) where
+  pub spans-length : length (spans file list entries d t) ≡ entries
+  spans-length = length-map (tabulate entries (faninAt file list)) (span d t) ∙ from-length entries 0 (faninAt file list)
+
+  -- none is left
+  pub spans-end : (e : ℕ) → entries ≤ e → length (spans file list entries d t) ≤ e
+  spans-end e h = rw spans-length h
+
+  pub spans-at : (e : ℕ) → e < entries → getD (spans file list entries d t) e [] ≡ span d t (faninAt file list e)
+  spans-at e h =
+      map-at (span d t) (tabulate entries (faninAt file list)) e 0 [] (rw (from-length entries 0 (faninAt file list)) h)
+      ∙ rw (tabulate-at entries (faninAt file list) 0 e h)
+
+  -- fan-in n is the next, where e are done
+  pub spans-next : (e : ℕ) → e < entries → {n : ℕ} → n ≡ faninAt file list e → drop e (spans file list entries d t) ≡ span d t n ∷ drop (e + 1) (spans file list entries d t)
+  spans-next e h q = drop-cons (spans file list entries d t) e [] (rw spans-length h) ∙ rw (spans-at e h, q, add-one e)
+
+pub spans-start : (file : List ℕ) (g : GateRecord) (d t : List ℕ) {net : ℕ} → RecordWithin file net g → Ready d t net
+    → (e : ℕ) → e < length (spans file (g .list) (g .entries) d t) → Starts (getD (spans file (g .list) (g .entries) d t) e [])
+spans-start file g d t w r e l =
+    let h : e < g .entries = rw (spans-length file (g .list) (g .entries) d t) at l in
+    rw (spans-at file (g .list) (g .entries) d t e h) (span-starts r (faninAt file (g .list) e) (w .below e h))

@@ -1,0 +1,92 @@
+-- The inputs are planned: areas cleared, the pairs and times of the inputs written.
+-- Assumes nothing.
+use Prim.Native.Nat.{ℕ, zero, suc, _+_, _*_, _≤_}
+use mathlib.Core.Path.{_≡_, refl, sym, ap, _∙_}
+use mathlib.Core.Bool.{true}
+use mathlib.Core.List.{List, [], _∷_, flatMap, flatten}
+use native.Mathlib.Omega.{arith}
+use lib.ListN.{length, replicate}
+use Rattle.lists.specs.Tables.{tabulateFrom}
+use Rattle.lists.specs.Areas.{padded}
+use Rattle.lists.proofs.Padding.{pad-cleared}
+use Rattle.method.specs.Frames.{Frames, inputFrames}
+use Rattle.circuit.specs.File.{circuitOf}
+use Rattle.circuit.specs.Limits.{mostInputs}
+use Rattle.planner.specs.declared.Totals.{Totals}
+use Rattle.planner.specs.Areas.{Areas, areas, allCleared}
+use Rattle.planner.specs.Layout.{allTimes, allInertial, allFanins, pairs}
+use Rattle.planner.specs.Questions.{fits}
+use Rattle.planner.specs.Plan.{latest, totalsOf}
+use Rattle.planner.specs.Steps.{framesOf, Room, Given, Inputs, Going}
+use Rattle.planner.proofs.Laying.{inputsOnly, inputs-count, inputs-frames}
+use Rattle.planner.proofs.Prefix.{frames-none}
+use Rattle.planner.proofs.Fitting.{fits-inputs}
+use Rattle.planner.proofs.Accepted.{circuit-inputs, few}
+use Rattle.planner.proofs.Stepping.{laid-is}
+
+-- ---- what the inputs are
+
+inertial-from : (n j : ℕ) → allInertial (tabulateFrom n j (λ (i : ℕ). inputFrames)) ≡ replicate (2 * n) 0
+unfolding flatMap tabulateFrom
+inertial-from zero j = refl
+inertial-from (suc n) j = rw (inertial-from n (suc j), let q : 2 * suc n ≡ suc (suc (2 * n)) = omega arith in q)
+
+fanins-from : (n j : ℕ) → allFanins (tabulateFrom n j (λ (i : ℕ). inputFrames)) ≡ []
+unfolding flatMap flatten tabulateFrom
+fanins-from zero j = refl
+fanins-from (suc n) j = fanins-from n (suc j)
+
+latest-from : (n j : ℕ) → latest (allTimes (tabulateFrom (suc n) j (λ (i : ℕ). inputFrames))) ≡ 1
+unfolding flatMap tabulateFrom latest
+latest-from zero j = refl
+latest-from (suc n) j = rw (latest-from n (suc j))
+
+inputs-latest : (n : ℕ) → 1 ≤ n → latest (allTimes (inputsOnly n)) ≡ 1
+inputs-latest zero h = absurd (omega arith)
+inputs-latest (suc n) h = latest-from n 0
+
+totals-inputs : (n : ℕ) → 1 ≤ n → _≡_ {A = Totals} (record { frames = 2 * n; fanins = 0; last = record { 0 = 1 } }) (totalsOf (inputsOnly n))
+unfolding totalsOf
+totals-inputs n h = rw (inputs-frames n, fanins-from n 0, inputs-latest n h)
+
+-- ---- of a file
+
+module _ (file : List ℕ) {inputs gates limit : ℕ} {a : Areas} (given : Given file inputs gates limit a) where
+  nets-are : framesOf file 0 ≡ inputsOnly inputs
+  nets-are = frames-none (circuitOf file) ∙ rw (circuit-inputs file (given .read))
+
+  fit : fits limit (framesOf file 0) ≡ true
+  fit = rw nets-are (fits-inputs limit inputs (given .start))
+
+  room : Room (inputsOnly inputs) a
+  room = rw nets-are at (given .room 0 (omega arith) fit)
+
+  pub inputs-room : (inputs ≤ mostInputs) × (2 * inputs ≤ length (a .directory)) × (2 * inputs ≤ length (a .times))
+  inputs-room = (few file (given .read) .1, omega (arith, room .directory, inputs-count inputs), omega (arith, room .times, inputs-frames inputs))
+
+  -- the areas were cleared
+  module _ {a′ : Areas} (cleared : a′ ≡ allCleared a) where
+    pub inputs-none : Inputs (a′ .directory) (a′ .times) 0
+    unfolding allCleared pairs flatMap tabulateFrom
+    inputs-none =
+        record {
+          pairs-are = pad-cleared (a .directory) 0 (ap (λ (x : Areas). x .directory) cleared) (omega arith);
+          times-are = pad-cleared (a .times) 0 (ap (λ (x : Areas). x .times) cleared) (omega arith);
+        }
+
+    inertial-0 : a′ .inertial ≡ padded (length (a′ .inertial)) (allInertial (inputsOnly inputs))
+    unfolding allCleared
+    inertial-0 =
+        rw (inertial-from inputs 0) (pad-cleared (a .inertial) (2 * inputs) (ap (λ (x : Areas). x .inertial) cleared) (omega (arith, room .inertial, inputs-frames inputs)))
+
+    fanins-0 : a′ .fanins ≡ padded (length (a′ .fanins)) (allFanins (inputsOnly inputs))
+    unfolding allCleared
+    fanins-0 = rw (fanins-from inputs 0) (pad-cleared (a .fanins) 0 (ap (λ (x : Areas). x .fanins) cleared) (omega arith))
+
+    pub going-none : {d t : List ℕ} → Inputs d t inputs → Going file 0 limit (areas d t (a′ .inertial) (a′ .fanins)) (record { frames = 2 * inputs; fanins = 0; last = record { 0 = 1 } })
+    going-none p =
+        record {
+          is = rw nets-are (laid-is (inputsOnly inputs) (p .pairs-are) (p .times-are) inertial-0 fanins-0);
+          totals = rw nets-are (totals-inputs inputs (few file (given .read) .0));
+          fit = fit;
+        }

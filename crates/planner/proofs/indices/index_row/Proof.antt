@@ -1,0 +1,118 @@
+-- `index_row` meets its contract: the indices of the fan-ins from e on are still to be stored.
+-- Assumes nothing.
+use Prim.Native.Nat.{_+_, _-_, _<_}
+use mathlib.Core.Path.{_≡_, refl}
+use mathlib.Core.List.{List, map}
+use Prim.Native.Nat.{ℕ}
+use lib.ListN.{length, drop, length-set}
+use lib.Seq.{sets}
+use native.Mathlib.Omega.{arith}
+use native.Mathlib.Nat.{add-zero}
+use denote.Ref.{now}
+use Rattle.method.specs.Indices.{lastFrame}
+use Rattle.planner.specs.Steps.{Below, spans}
+use Rattle.planner.proofs.Spans.{span-few, spans-end}
+use Rattle.planner.proofs.Indexing.{next-at, hint-at, found-at, row-on, row-end, below-set}
+use borrow.Author.Needs.{needs}
+use Rattle.planner.proofs.indices.index_row.Statement.{statement}
+use Rattle.planner.proofs.indices.index_row.Tie as tie
+
+abbrev Inv-loop : tie.InvT-loop
+Inv-loop file directory times time hints₀ fanins₀ at list entries e₀ hints fanins e = (length hints ≡ length hints₀) × (length fanins ≡ length fanins₀) × Below (spans file list entries directory times) (time .0) hints × (sets fanins₀ at (map (λ (s : List ℕ). lastFrame s (time .0)) (spans file list entries directory times)) ≡ sets fanins (at + e) (map (λ (s : List ℕ). lastFrame s (time .0)) (drop e (spans file list entries directory times))))
+
+abbrev μ-loop : tie.MeasureT-loop
+μ-loop file directory times time hints₀ fanins₀ at list entries e₀ hints fanins e = entries - e
+
+-- the fan-in is a net before the gate's
+low : (c : tie.After-fanin-at Inv-loop μ-loop) → c .fanin-at .result .0 < c .before .before .before .before .before .before .before .before .args .net .0
+low c = omega (arith, c .before .before .before .before .before .before .before .before .pre .0 .below (c .before .before .loop .e) (c .before .loop-test .taken), c .fanin-at .ensures)
+
+loop-holds : tie.Need-loop-holds Inv-loop μ-loop
+loop-holds c = (refl, refl, c .before .before .before .before .before .pre .1 .1 .2, rw add-zero)
+
+fanin-at-requires : tie.Need-fanin-at-requires Inv-loop μ-loop
+fanin-at-requires c κs = search needs
+
+times-of-requires : tie.Need-times-of-requires Inv-loop μ-loop
+times-of-requires c κs = (omega (arith, low c, c .before .before .before .before .before .before .before .before .pre .1 .0 .pairs), c .before .before .before .before .before .before .before .before .pre .1 .0 .inside (c .fanin-at .result .0) (low c))
+
+cast-i : tie.Need-cast-i Inv-loop μ-loop
+cast-i c = search needs
+
+mul-t18 : tie.Need-mul-t18 Inv-loop μ-loop
+mul-t18 c = omega (arith, c .before .before .before .before .before .before .before .before .before .pre .0 .entries-most)
+
+slice-read-t20 : tie.Need-slice-read-t20 Inv-loop μ-loop
+slice-read-t20 c = omega (arith, c .before .before .before .before .before .before .before .before .before .before .pre .0 .entries-most, c .before .before .before .before .before .before .before .before .before .before .pre .1 .1 .1, c .before .before .before .before .loop .inv .0)
+
+last-frame-requires : tie.Need-last-frame-requires Inv-loop μ-loop
+last-frame-requires c κs =
+    let s = c .before .before .before .before .before .before .before .before .before .before in
+    let n = c .before .before .fanin-at .result .0 in
+    let l = low (c .before .before) in
+    (rw (c .before .times-of .ensures) (s .pre .1 .0 .starts n l), rw (c .before .times-of .ensures) (span-few (s .pre .1 .0) n l), hint-at _ _ _ _ _ _ (c .before .before .before .loop-test .taken) (c .before .before .fanin-at .ensures) (c .before .times-of .ensures) (c .before .before .before .before .loop .inv .2))
+
+mul-hints : tie.Need-mul-hints Inv-loop μ-loop
+mul-hints c = omega (arith, c .before .before .before .before .before .before .before .before .before .before .before .pre .0 .entries-most)
+
+slice-write-hints : tie.Need-slice-write-hints Inv-loop μ-loop
+slice-write-hints c = omega (arith, c .before .before .before .before .before .before .before .before .before .before .before .pre .0 .entries-most, c .before .before .before .before .before .before .before .before .before .before .before .pre .1 .1 .1, c .before .before .before .before .before .loop .inv .0)
+
+add-fanins : tie.Need-add-fanins Inv-loop μ-loop
+add-fanins c = search needs
+
+mul-fanins : tie.Need-mul-fanins Inv-loop μ-loop
+mul-fanins c = search needs
+
+slice-write-fanins : tie.Need-slice-write-fanins Inv-loop μ-loop
+slice-write-fanins c = search needs
+
+add-e : tie.Need-add-e Inv-loop μ-loop
+add-e c = search needs
+
+loop-less : tie.Need-loop-less Inv-loop μ-loop
+loop-less c = search needs
+
+loop-again : tie.Need-loop-again Inv-loop μ-loop
+loop-again c =
+    let l = c .before .before .before .before .before .loop in
+    let s = c .before .before .before .before .before .before .before .before .before .before .before in (
+      simp length-set (l .inv .0),
+      simp length-set (l .inv .1),
+      below-set (l .inv .2) (l .e) (omega (arith, s .pre .0 .entries-most, s .pre .1 .1 .1, l .inv .0)) (found-at _ _ _ _ _ _ (c .before .before .before .before .loop-test .taken) (c .before .before .before .fanin-at .ensures) (c .before .before .times-of .ensures) (s .args .time .0) (c .last-frame .ensures)),
+      row-on (spans (now (s .args .file)) (s .args .gate .list) (s .args .gate .entries) (now (s .args .directory)) (now (s .args .times))) (s .args .time .0) (s .args .at) (l .e) (l .fanins) (l .inv .3) (next-at _ _ _ _ _ _ (c .before .before .before .before .loop-test .taken) (c .before .before .before .fanin-at .ensures) (c .before .before .times-of .ensures)) (c .last-frame .ensures),
+    )
+
+same-length : tie.Need-same-length Inv-loop μ-loop
+same-length c = search needs
+
+same-length-2 : tie.Need-same-length-2 Inv-loop μ-loop
+same-length-2 c = search needs
+
+returns : tie.Need-returns Inv-loop μ-loop
+returns c = record { is = row-end _ _ _ _ _ (c .before .loop .inv .3) (spans-end _ _ _ _ _ _ (c .loop-test .left)); below = c .before .loop .inv .2 }
+
+pub index-row-spec : {M : Type 1} → statement M
+index-row-spec =
+    tie.close
+    (tie.spec
+    Inv-loop
+    μ-loop
+    loop-holds
+    fanin-at-requires
+    times-of-requires
+    cast-i
+    mul-t18
+    slice-read-t20
+    last-frame-requires
+    mul-hints
+    slice-write-hints
+    add-fanins
+    mul-fanins
+    slice-write-fanins
+    add-e
+    loop-less
+    loop-again
+    same-length
+    same-length-2
+    returns)

@@ -1,0 +1,105 @@
+-- `plan` meets its contract: the questions in their order; the areas are filled only after 10.
+-- Assumes nothing.
+use denote.Ref.{now}
+use Rattle.planner.specs.Areas.{areas}
+use Rattle.planner.proofs.Calling.{given-all, plan-read, read-yes, plan-10, suits, plan-13, plan-yes}
+use borrow.Author.Needs.{needs}
+use Rattle.planner.proofs.plan.Statement.{statement}
+use Rattle.planner.proofs.plan.Tie as tie
+
+read-requires : tie.Need-read-requires
+read-requires c κs = search needs
+
+enum-known-n : tie.Need-enum-known-n
+enum-known-n c = search needs
+
+enum-known-inputs : tie.Need-enum-known-inputs
+enum-known-inputs c = search needs
+
+areas-suit-requires : tie.Need-areas-suit-requires
+areas-suit-requires c κs = search needs
+
+same-length : tie.Need-same-length
+same-length c = search needs
+
+same-length-2 : tie.Need-same-length-2
+same-length-2 c = search needs
+
+same-length-3 : tie.Need-same-length-3
+same-length-3 c = search needs
+
+same-length-4 : tie.Need-same-length-4
+same-length-4 c = search needs
+
+returns : tie.Need-returns
+returns c = plan-10 _ _ (c .before .before .before .before .before .before .before .before .before .read .ensures) (c .before .before .before .before .before .before .before .inputs .given .1) (c .before .areas-suit .ensures) (c .if1 .taken)
+
+fill-requires : tie.Need-fill-requires
+fill-requires c κs = let s = c .before .before .before .before .before .before .before .before .before .before .before .before .before .before .before .before .before .before .before .args in let a = areas (now (s .directory)) (now (s .times)) (now (s .inertial)) (now (s .fanins)) in given-all (now (s .file)) a (read-yes (now (s .file)) a (c .before .before .before .before .before .before .before .before .before .before .before .before .before .read .ensures) (c .before .before .before .before .before .before .before .before .before .before .before .inputs .given .1)) (suits (now (s .file)) a (c .before .before .before .before .before .before .before .before .before .before .before .before .before .read .ensures) (c .before .before .before .before .before .before .before .before .before .before .before .inputs .given .1) (c .before .before .before .before .before .areas-suit .ensures) (c .before .before .before .before .if1 .left))
+
+enum-told : tie.Need-enum-told
+enum-told c = search needs
+
+enum-known-t : tie.Need-enum-known-t
+enum-known-t c = search needs
+
+returns-2 : tie.Need-returns-2
+returns-2 c = plan-read _ _ (c .before .before .before .read .ensures) (c .before .n .given .1)
+
+same-length-5 : tie.Need-same-length-5
+same-length-5 c = search needs
+
+same-length-6 : tie.Need-same-length-6
+same-length-6 c = search needs
+
+same-length-7 : tie.Need-same-length-7
+same-length-7 c = search needs
+
+same-length-8 : tie.Need-same-length-8
+same-length-8 c = search needs
+
+returns-3 : tie.Need-returns-3
+returns-3 c = plan-13 _ _ (c .before .before .before .before .before .before .before .before .before .before .before .before .before .before .before .before .before .before .before .before .before .before .before .before .read .ensures) (c .before .before .before .before .before .before .before .before .before .before .before .before .before .before .before .before .before .before .before .before .before .before .inputs .given .1) (c .before .before .before .before .before .before .before .before .before .before .before .before .before .before .before .before .areas-suit .ensures) (c .before .before .before .before .before .before .before .before .before .before .before .before .before .before .before .if1 .left) (c .before .before .before .before .before .before .before .before .before .before .fill .ensures) (c .enum-told .given .1)
+
+same-length-9 : tie.Need-same-length-9
+same-length-9 c = search needs
+
+same-length-10 : tie.Need-same-length-10
+same-length-10 c = search needs
+
+same-length-11 : tie.Need-same-length-11
+same-length-11 c = search needs
+
+same-length-12 : tie.Need-same-length-12
+same-length-12 c = search needs
+
+returns-4 : tie.Need-returns-4
+returns-4 c = plan-yes _ _ (c .before .before .before .before .before .before .before .before .before .before .before .before .before .before .before .before .before .before .before .before .before .before .before .before .before .read .ensures) (c .before .before .before .before .before .before .before .before .before .before .before .before .before .before .before .before .before .before .before .before .before .before .before .inputs .given .1) (c .before .before .before .before .before .before .before .before .before .before .before .before .before .before .before .before .before .areas-suit .ensures) (c .before .before .before .before .before .before .before .before .before .before .before .before .before .before .before .before .if1 .left) (c .before .before .before .before .before .before .before .before .before .before .before .fill .ensures) (c .before .t .given .1)
+
+pub plan-spec : {M : Type 1} → statement M
+plan-spec =
+    tie.close
+    (tie.spec
+    read-requires
+    enum-known-n
+    enum-known-inputs
+    areas-suit-requires
+    same-length
+    same-length-2
+    same-length-3
+    same-length-4
+    returns
+    fill-requires
+    enum-told
+    enum-known-t
+    returns-2
+    same-length-5
+    same-length-6
+    same-length-7
+    same-length-8
+    returns-3
+    same-length-9
+    same-length-10
+    same-length-11
+    same-length-12
+    returns-4)

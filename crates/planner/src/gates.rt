@@ -1,0 +1,146 @@
+// The gates, one after the other: each is planned from the nets before it.
+ghost use mathlib.Core.Path.{_≡_};
+ghost use mathlib.Core.List.{flatMap};
+ghost use Prim.Native.Nat.{_+_, _*_, _≤_, _<_, max};
+ghost use lib.ListN.{length};
+ghost use Rattle.method.specs.Indices.{inertialIndices};
+ghost use Rattle.method.specs.Frames.{faninRow};
+ghost use Rattle.circuit.specs.Limits.{RecordWithin};
+ghost use Rattle.circuit.specs.File.{inputsOf};
+ghost use Rattle.planner.specs.Areas.{areas};
+ghost use Rattle.planner.specs.Steps.{Given, Going, Own, Reached, Ready, Stored, spans};
+use crate::Added;
+use crate::Totals;
+use crate::indices::index_rows;
+use crate::indices::inertial_row;
+use crate::times::gate_times;
+use circuit::GateRecord;
+use method::Net;
+use method::Time;
+
+// A net has at most so many frames.
+const NET_FRAMES: usize = 64;
+
+// Plans the gates, until one shows that there are too many frames.
+pub fn add_gates(
+    file: &[u8],
+    inputs: u16,
+    gates: u16,
+    limit: u16,
+    directory: &mut [u16],
+    times: &mut [u16],
+    inertial: &mut [u16],
+    fanins: &mut [u16],
+    start: Totals,
+) -> Added
+    requires { ⌜ Given (now file) inputs gates limit (areas (now directory) (now times) (now inertial) (now fanins)) ⌝ }
+    requires { ⌜ Going (now file) 0 limit (areas (now directory) (now times) (now inertial) (now fanins)) start ⌝ }
+    ensures { λ r. ⌜ Reached (now (file .entry)) gates limit (areas (now (directory .exit)) (now (times .exit)) (now (inertial .exit)) (now (fanins .exit))) r ⌝ }
+{
+    let mut totals = start;
+    let mut j: u16 = 0;
+    while j < gates {
+        let Added::Now(t) = add_gate(
+            file,
+            inputs,
+            gates,
+            j,
+            limit,
+            directory,
+            times,
+            inertial,
+            fanins,
+            totals,
+        ) else {
+            return Added::TooMany;
+        };
+        totals = t;
+        j += 1;
+    }
+    Added::Now(totals)
+}
+
+// Plans gate j after the inputs and the gates before it, unless there are too many frames.
+fn add_gate(
+    file: &[u8],
+    inputs: u16,
+    gates: u16,
+    j: u16,
+    limit: u16,
+    directory: &mut [u16],
+    times: &mut [u16],
+    inertial: &mut [u16],
+    fanins: &mut [u16],
+    totals: Totals,
+) -> Added
+    requires { ⌜ Given (now file) inputs gates limit (areas (now directory) (now times) (now inertial) (now fanins)) × (j < gates) ⌝ }
+    requires { ⌜ Going (now file) j limit (areas (now directory) (now times) (now inertial) (now fanins)) totals ⌝ }
+    ensures { λ r. ⌜ Reached (now (file .entry)) (j + 1) limit (areas (now (directory .exit)) (now (times .exit)) (now (inertial .exit)) (now (fanins .exit))) r ⌝ }
+{
+    let gate = circuit::gate_at(file, j);
+    let net = Net(inputs + j);
+    let first = totals.frames;
+    let at = totals.fanins;
+    let last = totals.last;
+    let mut row = [0u16; 520];
+    let count = gate_times(file, gate, net, directory, times, &mut row);
+    if NET_FRAMES < count {
+        return Added::TooMany;
+    }
+    if ((limit - first) as usize) < count {
+        return Added::TooMany;
+    }
+    let own = &row[0..count];
+    store_gate(
+        file,
+        gate,
+        net,
+        own,
+        directory,
+        times,
+        inertial,
+        fanins,
+        first as usize,
+        at as usize,
+    );
+    let end = own[count - 1];
+    Added::Now(Totals {
+        frames: first + count as u16,
+        fanins: at + count as u16 * gate.entries,
+        last: later_of(last, Time(end)),
+    })
+}
+
+// Writes the frames of a gate with these times, and its pair.
+fn store_gate(
+    file: &[u8],
+    gate: GateRecord,
+    net: Net,
+    own: &[u16],
+    directory: &mut [u16],
+    times: &mut [u16],
+    inertial: &mut [u16],
+    fanins: &mut [u16],
+    first: usize,
+    at: usize,
+)
+    requires { ⌜ RecordWithin (now file) (net .0) gate ⌝ }
+    requires { ⌜ Ready (now directory) (now times) (net .0) ⌝ }
+    requires { ⌜ Own (now own) ⌝ }
+    requires { ⌜ (first < 65536) × (2 * net .0 + 1 < length (now directory)) × (first + length (now own) ≤ length (now inertial)) × (at + length (now own) * gate .entries ≤ length (now fanins)) ⌝ }
+    ensures { λ _. ⌜ Stored (areas (now (directory .entry)) (now (times .entry)) (now (inertial .entry)) (now (fanins .entry))) (areas (now (directory .exit)) (now (times .exit)) (now (inertial .exit)) (now (fanins .exit))) (net .0) first at (now (own .entry)) (inertialIndices (gate .inertial) (now (own .entry))) (flatMap (faninRow (gate .delay) (spans (now (file .entry)) (gate .list) (gate .entries) (now (directory .entry)) (now (times .entry)))) (now (own .entry))) ⌝ }
+{
+    inertial_row(own, gate.inertial, inertial, first);
+    index_rows(file, gate, net, directory, times, own, fanins, at);
+    lists::store(times, first, own);
+    let pair = 2 * (net.0 as usize);
+    directory[pair] = first as u16;
+    directory[pair + 1] = own.len() as u16;
+}
+
+// The later of two times.
+fn later_of(a: Time, b: Time) -> Time
+    ensures { λ r. ⌜ r .0 ≡ max (a .0) (b .0) ⌝ }
+{
+    if a.0 < b.0 { b } else { a }
+}

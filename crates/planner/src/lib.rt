@@ -1,0 +1,152 @@
+// Plan: the frames of every net of a circuit, laid out in the caller's areas.
+ghost use mathlib.Core.Path.{_≡_};
+ghost use Prim.Native.Nat.{_*_, _≤_};
+ghost use lib.ListN.{length};
+ghost use Rattle.circuit.specs.Limits.{mostInputs};
+ghost use Rattle.planner.specs.Areas.{areas, allCleared};
+ghost use Rattle.planner.specs.Questions.{areasSuit};
+ghost use Rattle.planner.specs.Plan.{outcome, onPaper, planOf};
+ghost use Rattle.planner.specs.Steps.{Given, Inputs, Filled};
+
+mod gates;
+mod indices;
+mod times;
+
+use circuit::Reading;
+use gates::add_gates;
+use method::Time;
+
+// At most so many frames in all.
+const ALL_FRAMES: u16 = 2048;
+
+// How many frames and how many fan-in entries there are, and the last potential time.
+pub struct Totals {
+    pub frames: u16,
+    pub fanins: u16,
+    pub last: Time,
+}
+
+// What planning answers: the totals, or the number of the first "no".
+pub enum Planning {
+    Planned(Totals),
+    Refused(u8),
+}
+
+// The totals so far, or that there are too many frames.
+enum Added {
+    Now(Totals),
+    TooMany,
+}
+
+// Plans the circuit of the file: questions 1 to 10, and 13.
+pub fn plan(
+    file: &[u8],
+    directory: &mut [u16],
+    times: &mut [u16],
+    inertial: &mut [u16],
+    fanins: &mut [u16],
+) -> Planning
+    ensures { λ r. ⌜ outcome (onPaper r) (areas (now (directory .exit)) (now (times .exit)) (now (inertial .exit)) (now (fanins .exit))) ≡ planOf (now (file .entry)) (areas (now (directory .entry)) (now (times .entry)) (now (inertial .entry)) (now (fanins .entry))) ⌝ }
+{
+    match circuit::read(file) {
+        Reading::Refused(n) => Planning::Refused(n),
+        Reading::Accepted { inputs, gates } => {
+            if !areas_suit(directory, times, inertial, fanins) {
+                return Planning::Refused(10);
+            }
+            match fill(
+                file,
+                inputs,
+                gates,
+                ALL_FRAMES,
+                directory,
+                times,
+                inertial,
+                fanins,
+            ) {
+                Added::TooMany => Planning::Refused(13),
+                Added::Now(t) => Planning::Planned(t),
+            }
+        }
+    }
+}
+
+// Question 10.
+fn areas_suit(directory: &[u16], times: &[u16], inertial: &[u16], fanins: &[u16]) -> bool
+    ensures { λ r. ⌜ r ≡ areasSuit (areas (now (directory .entry)) (now (times .entry)) (now (inertial .entry)) (now (fanins .entry))) ⌝ }
+{
+    if directory.len() != 320 {
+        return false;
+    }
+    if times.len() != 2048 {
+        return false;
+    }
+    if inertial.len() != 2048 {
+        return false;
+    }
+    fanins.len() == 16384
+}
+
+// Fills the areas with the frames of all nets; if there are too many frames, with zeros.
+fn fill(
+    file: &[u8],
+    inputs: u16,
+    gates: u16,
+    limit: u16,
+    directory: &mut [u16],
+    times: &mut [u16],
+    inertial: &mut [u16],
+    fanins: &mut [u16],
+) -> Added
+    requires { ⌜ Given (now file) inputs gates limit (areas (now directory) (now times) (now inertial) (now fanins)) ⌝ }
+    ensures { λ r. ⌜ Filled (now (file .entry)) limit (areas (now (directory .entry)) (now (times .entry)) (now (inertial .entry)) (now (fanins .entry))) (areas (now (directory .exit)) (now (times .exit)) (now (inertial .exit)) (now (fanins .exit))) r ⌝ }
+{
+    clear_all(directory, times, inertial, fanins);
+    add_inputs(directory, times, inputs);
+    let start = Totals {
+        frames: 2 * inputs,
+        fanins: 0,
+        last: Time(1),
+    };
+    let Added::Now(totals) = add_gates(
+        file,
+        inputs,
+        gates,
+        limit,
+        directory,
+        times,
+        inertial,
+        fanins,
+        start,
+    ) else {
+        clear_all(directory, times, inertial, fanins);
+        return Added::TooMany;
+    };
+    Added::Now(totals)
+}
+
+fn clear_all(directory: &mut [u16], times: &mut [u16], inertial: &mut [u16], fanins: &mut [u16])
+    ensures { λ _. ⌜ areas (now (directory .exit)) (now (times .exit)) (now (inertial .exit)) (now (fanins .exit)) ≡ allCleared (areas (now (directory .entry)) (now (times .entry)) (now (inertial .entry)) (now (fanins .entry))) ⌝ }
+{
+    lists::clear(directory);
+    lists::clear(times);
+    lists::clear(inertial);
+    lists::clear(fanins);
+}
+
+// Writes the pairs and the times of the inputs into areas of zeros; their inertial indices are zeros, and fan-in rows
+// they have none.
+fn add_inputs(directory: &mut [u16], times: &mut [u16], inputs: u16)
+    requires { ⌜ (inputs ≤ mostInputs) × (2 * inputs ≤ length (now directory)) × (2 * inputs ≤ length (now times)) × Inputs (now directory) (now times) 0 ⌝ }
+    ensures { λ _. ⌜ Inputs (now (directory .exit)) (now (times .exit)) inputs ⌝ }
+{
+    let mut n: u16 = 0;
+    while n < inputs {
+        let at = 2 * (n as usize);
+        directory[at] = 2 * n;
+        directory[at + 1] = 2;
+        times[at] = 0;
+        times[at + 1] = 1;
+        n += 1;
+    }
+}
