@@ -1,13 +1,20 @@
 // The test program. Standard input is a row of cases, each a length of four bytes, little-endian, and a circuit file of
-// that length. Standard output has a line a case: `accepted I G`, or `refused` and the number. It stops at the end of the
-// input; where it stops before that, at a case that is cut short or longer than 70,000 bytes or after a million cases, it
-// prints `cut`.
+// that length. Standard output has a line a case: what the reader answers, `accepted I G` or `refused` and the number; what
+// Plan answers, `planned` and the three totals or `refused` and the number; and a sum of each area as Plan leaves it. It
+// stops at the end of the input; where it stops before that, at a case that is cut short or longer than 70,000 bytes or
+// after a million cases, it prints `cut`. Before the cases come lines for areas of other lengths.
 ghost use Prim.Native.Nat.{_<_};
+
+mod plans;
+
 use circuit::Reading;
 use libc::STDIN_FILENO;
 use libc::STDOUT_FILENO;
+use plans::show_lengths;
+use plans::show_plan;
 
 fn main() {
+    lengths();
     let mut turns: u32 = 0;
     while turns < 1000000 {
         if !next_case() {
@@ -16,6 +23,20 @@ fn main() {
         turns += 1;
     }
     end_of_turns();
+}
+
+// Areas of the right lengths, then one area too short or too long.
+fn lengths() {
+    show_lengths(320, 2048, 2048, 16384);
+    show_lengths(319, 2048, 2048, 16384);
+    show_lengths(321, 2048, 2048, 16384);
+    show_lengths(320, 2047, 2048, 16384);
+    show_lengths(320, 2049, 2048, 16384);
+    show_lengths(320, 2048, 2047, 16384);
+    show_lengths(320, 2048, 2049, 16384);
+    show_lengths(320, 2048, 2048, 16383);
+    show_lengths(320, 2048, 2048, 16385);
+    show_lengths(0, 0, 0, 0);
 }
 
 // Says so where input is left.
@@ -57,11 +78,19 @@ fn read_case(len: usize, body: &mut [u8]) -> bool {
     show_case(&mut body[0..len])
 }
 
-// Fills the file from the input and prints its reading.
+// Fills the file from the input and prints its line.
 fn show_case(file: &mut [u8]) -> bool {
     if io::read_full(STDIN_FILENO, file) < file.len() {
         return cut();
     }
+    show_reading(file);
+    io::write_all(STDOUT_FILENO, b";");
+    show_plan(file);
+    io::write_all(STDOUT_FILENO, b"\n");
+    true
+}
+
+fn show_reading(file: &[u8]) {
     match circuit::read(file) {
         Reading::Accepted { inputs, gates } => {
             io::write_all(STDOUT_FILENO, b"accepted ");
@@ -74,8 +103,6 @@ fn show_case(file: &mut [u8]) -> bool {
             io::print_decimal(STDOUT_FILENO, number as u64);
         }
     }
-    io::write_all(STDOUT_FILENO, b"\n");
-    true
 }
 
 fn cut() -> bool {

@@ -59,6 +59,11 @@ pub or-cases : (a b : Bool) → a || b ≡ true → (a ≡ true) ⊎ (b ≡ true
 or-cases true b e = inl e
 or-cases false b e = inr e
 
+pub or-swap : (a b c : Bool) → a || (b || c) ≡ b || (a || c)
+or-swap true true c = refl
+or-swap true false c = refl
+or-swap false b c = refl
+
 -- the test for the same truth value
 pub beq-true : (a b : Bool) → Bool·beq a b ≡ true → a ≡ b
 beq-true true true e = refl

@@ -9,7 +9,7 @@ use native.Mathlib.Omega.{arith}
 use lib.Dec.{ltb, eqb, eqb·suc-zero}
 use borrow.Author.Tests.{lt-ltb, le-ltb, ltb-true, eq-eqb, ne-eqb, eqb-true, eqb-false}
 use Rattle.lists.specs.Tables.{some}
-use Rattle.lists.proofs.Choices.{either, less, same, more, tri, and-left, and-right}
+use Rattle.lists.proofs.Choices.{either, less, same, more, tri, and-left, and-right, or-swap}
 use Rattle.method.specs.Times.{insert, rising, shifted, gateTimes, among, riseAbove, startAndRise}
 
 -- ---- rising lists, as a type to take apart
@@ -78,11 +78,6 @@ rise-ext p (t ∷ ts) (u ∷ us) r s f =
     ]
 
 -- ---- insertion keeps the rise and adds one member
-
-or-swap : (a b c : Bool) → a || (b || c) ≡ b || (a || c)
-or-swap true true c = refl
-or-swap true false c = refl
-or-swap false b c = refl
 
 pub insert-rise : (p x : ℕ) (ts : List ℕ) → p < x → Rise p ts → Rise p (insert x ts)
 insert-rise p x [] h r = (h, tt)

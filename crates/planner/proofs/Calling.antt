@@ -1,13 +1,13 @@
 -- The plan as a whole: all gates tried, and the ladder of Plan's questions.
 -- Assumes nothing.
-use Prim.Native.Nat.{ℕ, zero, suc, _+_, _*_, _≤_, _<_}
-use mathlib.Core.Path.{_≡_, refl, sym, ap, ap₂, _∙_}
-use mathlib.Core.Bool.{Bool, true, false, not, cond}
-use mathlib.Core.List.{List, [], _∷_, _++_}
+use Prim.Native.Nat.{ℕ, _≤_}
+use mathlib.Core.Path.{_≡_, refl, sym, _∙_}
+use mathlib.Core.Bool.{Bool, true, false, not}
+use mathlib.Core.List.{List, [], _∷_}
 use native.Mathlib.Omega.{arith}
 use lib.Dec.{eqb}
-use lib.ListN.{length, replicate}
-use borrow.Author.Tests.{eqb-true, eq-eqb, ne-eqb, not-true, not-false}
+use lib.ListN.{length}
+use borrow.Author.Tests.{eqb-true, ne-eqb, not-true, not-false}
 use Rattle.lists.specs.Ladder.{_orElse_, firstNo, accepted, refused, unless}
 use Rattle.lists.proofs.Choices.{and-left, and-right}
 use Rattle.lists.proofs.Ladders.{first, first-here, first-most, firstNo-append, ask-yes, ask-no, all-asked, accepted-none, refused-some, unless-none, unless-some}
@@ -22,11 +22,11 @@ use Rattle.planner.specs.declared.Added.{Added}
 use Rattle.planner.specs.declared.Added.the-variants as A
 use Rattle.planner.specs.declared.Planning.the-variants as P
 use Rattle.planner.specs.Limits.{allFrames, directoryLength, frameLength, faninLength}
-use Rattle.planner.specs.Areas.{Areas, areas, allCleared}
+use Rattle.planner.specs.Areas.{Areas, allCleared}
 use Rattle.planner.specs.Layout.{allTimes, laid}
 use Rattle.planner.specs.Questions.{areasSuit, fits, questions}
 use Rattle.planner.specs.Plan.{totalsOf, leftBy, outcome, planOf, onPaper}
-use Rattle.planner.specs.Steps.{framesOf, Given, Going, Reached, Filled}
+use Rattle.planner.specs.Steps.{framesOf, Given, Reached, Filled}
 use Rattle.planner.proofs.Prefix.{frames-all}
 use Rattle.planner.proofs.Fitting.{fits-total}
 use Rattle.planner.proofs.Accepted.{gates-count, few, nets-count, nets-sized}

@@ -2,16 +2,17 @@
 -- Assumes nothing.
 use Prim.Native.Nat.{ℕ, zero, suc, _+_, _≤_, _<_}
 use mathlib.Core.Path.{_≡_, refl, sym, ap, _∙_}
-use mathlib.Core.Bool.{Bool, true, false, _||_, or-assoc}
-use mathlib.Core.List.{List, [], _∷_, _++_, flatMap}
+use mathlib.Core.Bool.{_||_, or-assoc, or-false}
+use mathlib.Core.List.{List, [], _∷_, flatMap}
 use native.Mathlib.Omega.{arith}
 use native.Mathlib.Numerals.{add-one}
 use lib.Dec.{eqb}
 use lib.ListN.{length, getD, take, drop, set, drop-of-length-le}
 use lib.Seq.{drop-cons, take-at}
 use borrow.Author.Tests.{le-ltb, ne-eqb}
+use Rattle.lists.proofs.Choices.{or-swap}
 use Rattle.method.specs.Times.{insert, rising, shifted, gateTimes, among}
-use Rattle.method.proofs.Rising.{Rise, Starts, rise-lower, rise-ext, insert-rise, insert-among, Above, among-append, rising-rise, rising-among, all-shifted-above}
+use Rattle.method.proofs.Rising.{Rise, Starts, rise-ext, insert-rise, insert-among, Above, among-append, rising-rise, rising-among, all-shifted-above}
 use Rattle.planner.specs.Steps.{Inserted, into}
 
 -- the later times of each of these nets, plus d, inserted one after the other
@@ -56,11 +57,6 @@ rise-above p q (t ∷ ts) h r = (omega arith, rise-above p t ts (omega arith) (r
 start-above : (ss : List ℕ) → Starts ss → Above 0 (drop 1 ss)
 start-above [] h = absurd h
 start-above (t ∷ ss) h = rise-above 0 t ss (omega arith) (h .1)
-
-or-swap : (a b c : Bool) → a || (b || c) ≡ b || (a || c)
-or-swap true true c = refl
-or-swap true false c = refl
-or-swap false b c = refl
 
 into-zero : (d : ℕ) (ss ts : List ℕ) → Above 0 ss → into d ss (0 ∷ ts) ≡ 0 ∷ into d ss ts
 unfolding into
@@ -109,10 +105,6 @@ gather-among x d (ss ∷ rows) ts a =
     ∙ rw (into-among x d (drop 1 ss) ts (start-above ss (a 0 (omega arith))), among-append x (shifted d ss) later, shifted-start d ss (a 0 (omega arith)))
     (or-swap (among x later) (among x (shifted d (drop 1 ss))) (among x ts) ∙ sym (or-assoc (among x (shifted d (drop 1 ss))) (among x later) (among x ts)))
 
-or-none : (b : Bool) → b || false ≡ b
-or-none true = refl
-or-none false = refl
-
 pub gathered : (d : ℕ) (rows : List (List ℕ)) → AllStart rows → gather d rows (0 ∷ []) ≡ gateTimes d rows
 unfolding gateTimes
 gathered d rows a =
@@ -120,4 +112,4 @@ gathered d rows a =
     gather-zero d rows [] a
     ∙ ap (λ (l : List ℕ). 0 ∷ l)
     (rise-ext 0 (gather d rows []) (rising later) (gather-rise d rows [] a tt) (rising-rise 0 later (all-shifted-above d rows))
-    (λ x. gather-among x d rows [] a ∙ or-none (among x later) ∙ sym (rising-among x later)))
+    (λ x. gather-among x d rows [] a ∙ or-false (among x later) ∙ sym (rising-among x later)))

@@ -2,7 +2,7 @@
 -- Assumes nothing.
 use Prim.Native.Nat.{ℕ, zero, suc, _+_, _-_, _*_, _<_, _≤_}
 use mathlib.Core.Path.{_≡_, refl, sym, ap, ap₂, _∙_}
-use mathlib.Core.Bool.{true}
+use mathlib.Core.Bool.{true, false≢true}
 use mathlib.Core.List.{List, [], _∷_, _++_, map, flatMap}
 use native.Mathlib.Omega.{arith}
 use native.Mathlib.Nat.{add-zero, add-suc, suc-mul, mul-le-mul-right}
@@ -11,6 +11,7 @@ use lib.ListN.{length, getD, drop, set, replicate, length-drop, length-map, drop
 use lib.Seq.{sets, drop-cons, drop-drop, getD-set-same, getD-set-other}
 use Rattle.lists.specs.Tables.{leading}
 use Rattle.lists.proofs.Choices.{less, same, more, tri}
+use Rattle.lists.proofs.Zeros.{zeros-at}
 use Rattle.lists.proofs.Leading.{leading-most, leading-skip}
 use Rattle.method.specs.Times.{startAndRise}
 use Rattle.method.specs.Indices.{lastFrame, faninIndex, upTo, inertialIndices}
@@ -32,6 +33,11 @@ starts-drop : (ts : List ℕ) → Starts ts → (k : ℕ) → k < length ts → 
 starts-drop [] r k h = absurd r
 starts-drop (t ∷ ts) r zero h = r .1
 starts-drop (t ∷ ts) r (suc k) h = rise-drop t ts (r .1) k (omega arith)
+
+-- there is one
+pub own-some : (ts : List ℕ) → startAndRise ts ≡ true → 1 ≤ length ts
+own-some [] e = absurd (false≢true e)
+own-some (t ∷ ts) e = omega arith
 
 -- the next of them is later
 pub own-next : (ts : List ℕ) → startAndRise ts ≡ true → (k : ℕ) → k + 1 < length ts → getD ts k 0 ≤ getD ts (k + 1) 0
@@ -95,13 +101,8 @@ module _ (ss : List (List ℕ)) (time at e : ℕ) (f : List ℕ) {w : List ℕ} 
 
 -- ---- hints
 
-getD-zeros : (n e : ℕ) → getD (replicate {A = ℕ} n 0) e 0 ≤ 0
-getD-zeros zero e = omega arith
-getD-zeros (suc n) zero = omega arith
-getD-zeros (suc n) (suc e) = getD-zeros n e
-
 pub below-none : (ss : List (List ℕ)) (time n : ℕ) → Below ss time (replicate n 0)
-below-none ss time n = record { hint = λ e l. omega (arith, getD-zeros n e) }
+below-none ss time n = record { hint = λ e l. omega (arith, zeros-at n e) }
 
 module _ {ss : List (List ℕ)} {time : ℕ} {hints : List ℕ} (b : Below ss time hints) where
   pub below-more : ((e : ℕ) → e < length ss → Starts (getD ss e [])) → (later : ℕ) → time ≤ later → Below ss later hints

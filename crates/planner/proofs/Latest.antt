@@ -1,6 +1,6 @@
 -- The last potential time: the greatest of joined lists, and of times that rise.
 -- Assumes nothing.
-use Prim.Native.Nat.{ℕ, suc, _-_, _≤_, max}
+use Prim.Native.Nat.{ℕ, suc, _-_, max}
 use mathlib.Core.Path.{_≡_, sym, ap, _∙_}
 use mathlib.Core.List.{List, [], _∷_, _++_}
 use native.Mathlib.Omega.{arith}
@@ -26,7 +26,3 @@ pub latest-is : (ts : List ℕ) → Starts ts → latest ts ≡ getD ts (length 
 unfolding latest
 latest-is [] r = absurd r
 latest-is (t ∷ ts) r = last-of-rise t ts (r .1) ∙ ap (λ (n : ℕ). getD (t ∷ ts) n 0) (let q : length ts ≡ suc (length ts) - 1 = omega arith in q)
-
-pub start-some : (ts : List ℕ) → Starts ts → 1 ≤ length ts
-start-some [] h = absurd h
-start-some (t ∷ ts) h = omega arith

@@ -6,16 +6,14 @@ use mathlib.Core.List.{List, [], _∷_, _++_, flatMap, append-assoc}
 use native.Mathlib.Omega.{arith}
 use native.Mathlib.Nat.{add-zero}
 use native.Mathlib.Numerals.{add-one}
-use lib.ListN.{length, getD, take, drop, set, replicate, length-append}
+use lib.ListN.{length, getD, take, drop, set, length-append}
 use lib.Seq.{sets, take-append-seam, drop-append-seam}
 use Rattle.lists.specs.Tables.{tabulate, tabulateFrom}
-use Rattle.lists.specs.Areas.{padded}
 use Rattle.lists.proofs.Tabled.{from-length, tabulate-snoc}
 use Rattle.lists.proofs.Flat.{flat-snoc}
 use Rattle.lists.proofs.Padding.{pad-more}
 use Rattle.method.specs.Frames.{Frames, inputFrames, noFrames}
-use Rattle.planner.specs.Areas.{Areas, areas}
-use Rattle.planner.specs.Layout.{allTimes, allInertial, allFanins, pairs, laid}
+use Rattle.planner.specs.Layout.{allTimes, pairs}
 use Rattle.planner.specs.Steps.{span, Inputs}
 
 pub pair-stored : (d : List ℕ) (net first count : ℕ) → set (set d (2 * net) first) (2 * net + 1) count ≡ sets d (2 * net) (first ∷ count ∷ [])

@@ -1,10 +1,10 @@
 -- The frames of the inputs and the first gates: a gate more, how many nets, how late they get, how much room they take.
 -- Assumes nothing.
 use Prim.Native.Nat.{ℕ, zero, suc, _+_, _-_, _*_, _≤_, _<_}
-use mathlib.Core.Path.{_≡_, refl, sym, ap, ap₂, _∙_}
+use mathlib.Core.Path.{_≡_, refl, sym, ap, _∙_}
 use mathlib.Core.List.{List, [], _∷_, _++_, map, flatMap, flatten}
 use native.Mathlib.Omega.{arith}
-use native.Mathlib.Nat.{suc-mul, zero-mul, mul-le-mul-left, mul-comm}
+use native.Mathlib.Nat.{suc-mul, zero-mul, mul-le-mul-left}
 use lib.ListN.{length, getD, take, length-append, length-map}
 use lib.Seq.{take-suc, take-length, length-take-le, getD-take}
 use Rattle.lists.specs.Tables.{tabulateFrom}

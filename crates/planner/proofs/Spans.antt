@@ -1,15 +1,15 @@
 -- The times of nets that are planned already, read from the areas.
 -- Assumes nothing.
 use Prim.Native.Nat.{ℕ, zero, suc, _+_, _-_, _*_, _<_, _≤_}
-use mathlib.Core.Path.{_≡_, refl, sym, _∙_}
-use mathlib.Core.List.{List, [], _∷_, map}
+use mathlib.Core.Path.{_≡_, _∙_}
+use mathlib.Core.List.{List, [], _∷_}
 use native.Mathlib.Omega.{arith}
 use native.Mathlib.Numerals.{add-one}
-use lib.ListN.{length, getD, take, drop, length-map, length-drop}
-use lib.Seq.{length-take-le, drop-cons, getD-take, getD-drop}
-use Rattle.lists.specs.Tables.{tabulateFrom, tabulate}
+use lib.ListN.{length, getD, take, drop, length-map, length-drop, List·getD-map}
+use lib.Seq.{length-take-le, drop-cons, getD-drop}
+use Rattle.lists.specs.Tables.{tabulate}
 use Rattle.lists.proofs.Tabled.{from-length, tabulate-at}
-use Rattle.method.specs.Times.{startAndRise}
+use Rattle.lists.proofs.ByNumber.{getD-any}
 use Rattle.method.proofs.Rising.{Starts, test-starts}
 use Rattle.circuit.specs.declared.GateRecord.{GateRecord}
 use Rattle.circuit.specs.File.{faninAt}
@@ -25,11 +25,6 @@ unfolding span
 span-read d t n {first} {end} p q =
     let m : end - first ≡ getD d (2 * n + 1) 0 = omega arith in
     rw (m, p)
-
-map-at : {A B : Type 0} (f : A → B) (xs : List A) (k : ℕ) (a : A) (b : B) → k < length xs → getD (map f xs) k b ≡ f (getD xs k a)
-map-at f [] k a b h = absurd (omega arith)
-map-at f (x ∷ xs) zero a b h = refl
-map-at f (x ∷ xs) (suc k) a b h = map-at f xs k a b (omega arith)
 
 module _ {d t : List ℕ} {net : ℕ} (r : Ready d t net) (n : ℕ) (h : n < net) where
   pub span-starts : Starts (span d t n)
@@ -64,7 +59,8 @@ module _ (file : List ℕ) (list entries : ℕ) (d t : List ℕ) where
 
   pub spans-at : (e : ℕ) → e < entries → getD (spans file list entries d t) e [] ≡ span d t (faninAt file list e)
   spans-at e h =
-      map-at (span d t) (tabulate entries (faninAt file list)) e 0 [] (rw (from-length entries 0 (faninAt file list)) h)
+      getD-any (spans file list entries d t) e [] (span d t 0) (rw spans-length h)
+      ∙ List·getD-map (span d t) (tabulate entries (faninAt file list)) e 0
       ∙ rw (tabulate-at entries (faninAt file list) 0 e h)
 
   -- fan-in n is the next, where e are done

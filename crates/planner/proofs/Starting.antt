@@ -1,15 +1,15 @@
 -- The inputs are planned: areas cleared, the pairs and times of the inputs written.
 -- Assumes nothing.
-use Prim.Native.Nat.{ℕ, zero, suc, _+_, _*_, _≤_}
-use mathlib.Core.Path.{_≡_, refl, sym, ap, _∙_}
+use Prim.Native.Nat.{ℕ, zero, suc, _*_, _≤_}
+use mathlib.Core.Path.{_≡_, refl, ap, _∙_}
 use mathlib.Core.Bool.{true}
-use mathlib.Core.List.{List, [], _∷_, flatMap, flatten}
+use mathlib.Core.List.{List, [], flatMap, flatten}
 use native.Mathlib.Omega.{arith}
 use lib.ListN.{length, replicate}
 use Rattle.lists.specs.Tables.{tabulateFrom}
 use Rattle.lists.specs.Areas.{padded}
 use Rattle.lists.proofs.Padding.{pad-cleared}
-use Rattle.method.specs.Frames.{Frames, inputFrames}
+use Rattle.method.specs.Frames.{inputFrames}
 use Rattle.circuit.specs.File.{circuitOf}
 use Rattle.circuit.specs.Limits.{mostInputs}
 use Rattle.planner.specs.declared.Totals.{Totals}

@@ -5,31 +5,24 @@ use mathlib.Core.Path.{_≡_, refl, sym, ap, ap₂, _∙_}
 use mathlib.Core.Bool.{true, false}
 use mathlib.Core.List.{List, [], _∷_, _++_, map, flatMap, flatten}
 use native.Mathlib.Omega.{arith}
-use native.Mathlib.Nat.{add-zero, sub-zero, max-eq-left, max-eq-right, sub-add-eq-max}
-use native.Mathlib.Numerals.{add-one}
-use lib.ListN.{length, getD, take, drop, replicate, length-append, length-map}
-use lib.Seq.{sets, length-sets, getD-take, length-take-le, getD-append-seam}
-use Rattle.lists.specs.Ladder.{accepted}
-use Rattle.lists.specs.Tables.{tabulateFrom, tabulate}
+use lib.ListN.{length, getD, take, drop, replicate, length-append}
+use lib.Seq.{getD-append-seam}
+use Rattle.lists.specs.Tables.{tabulateFrom}
 use Rattle.lists.specs.Areas.{padded}
-use Rattle.lists.proofs.Tabled.{from-length}
+use Rattle.lists.proofs.Zeros.{zeros-at}
 use Rattle.lists.proofs.Flat.{flat-snoc}
 use Rattle.lists.proofs.Padding.{pad-more}
 use Rattle.method.specs.Kinds.{mostFanins}
 use Rattle.method.specs.Circuit.{Gate, gateAt}
-use Rattle.method.specs.Times.{gateTimes, startAndRise}
+use Rattle.method.specs.Times.{gateTimes}
 use Rattle.method.specs.Indices.{inertialIndices}
-use Rattle.method.specs.Frames.{Frames, faninRow, noFrames, frames, framesAt}
-use Rattle.method.specs.declared.Time.{Time}
-use Rattle.method.proofs.Rising.{Rise, Starts, starts-test, gateTimes-start}
+use Rattle.method.specs.Frames.{Frames, faninRow, noFrames, frames}
+use Rattle.method.proofs.Rising.{Starts, starts-test, gateTimes-start}
 use Rattle.method.proofs.Planned.{times-start}
 use Rattle.circuit.specs.declared.GateRecord.{GateRecord}
-use Rattle.circuit.specs.File.{inputsOf, gatesOf, faninAt, recordOf, circuitOf}
-use Rattle.circuit.specs.Limits.{mostInputs, mostGates, Within, RecordWithin}
-use Rattle.circuit.specs.Questions.{Size, sizeOf, readOf}
-use Rattle.circuit.proofs.Accepted.{passed}
-use Rattle.circuit.proofs.Faithful.{faithful}
-use Rattle.circuit.proofs.Parts.{gates-length, gate-is, gateFrom, gate-from, record-within}
+use Rattle.circuit.specs.File.{faninAt, recordOf, circuitOf}
+use Rattle.circuit.specs.Limits.{mostInputs, mostGates, RecordWithin}
+use Rattle.circuit.proofs.Parts.{gateFrom}
 use Rattle.planner.specs.declared.Totals.{Totals}
 use Rattle.planner.specs.declared.Added.the-variants as A
 use Rattle.planner.specs.Limits.{mostFrames, allFrames}
@@ -37,13 +30,13 @@ use Rattle.planner.specs.Areas.{Areas, areas}
 use Rattle.planner.specs.Layout.{allTimes, allInertial, allFanins, pairs, laid}
 use Rattle.planner.specs.Questions.{fits}
 use Rattle.planner.specs.Plan.{latest, totalsOf}
-use Rattle.planner.specs.Steps.{mostTime, Put, span, spans, Ready, Own, firstGates, framesOf, Room, Given, Stored, Going, Reached}
+use Rattle.planner.specs.Steps.{mostTime, Put, span, spans, Ready, Own, firstGates, framesOf, Room, Given, Place, Stored, Going, Reached}
 use Rattle.planner.proofs.Inserting.{front}
 use Rattle.planner.proofs.Spans.{spans-length}
 use Rattle.planner.proofs.Laying.{Spot, spot, times-snoc, pairs-snoc, pairs-length}
-use Rattle.planner.proofs.Prefix.{faninTimes, nextFrames, frames-next, frames-count, next-times, next-inertial, next-rows, next-even, frames-early, rows-length, Sized, sized}
-use Rattle.planner.proofs.Accepted.{inputs-are, gates-count, circuit-inputs, circuit-within, few, within, gate-read, nets-sized, nets-count, nets-next, next-narrow}
-use Rattle.planner.proofs.Latest.{latest-append, latest-is, start-some}
+use Rattle.planner.proofs.Prefix.{faninTimes, nextFrames, next-times, next-inertial, next-rows, next-even, frames-early, rows-length}
+use Rattle.planner.proofs.Accepted.{gates-count, circuit-inputs, circuit-within, few, within, gate-read, nets-sized, nets-count, nets-next, next-narrow}
+use Rattle.planner.proofs.Latest.{latest-append, latest-is}
 use Rattle.planner.proofs.Fitting.{fits-total, fits-net, fits-more, fits-long, fits-many, total-more}
 
 -- ---- numbers that are low
@@ -53,11 +46,6 @@ low-append b [] ys h g k = g k
 low-append b (x ∷ xs) ys h g zero = h 0
 low-append b (x ∷ xs) ys h g (suc k) = low-append b xs ys (λ i. h (suc i)) g k
 
-low-zeros : (b n k : ℕ) → getD (replicate {A = ℕ} n 0) k 0 ≤ b
-low-zeros b zero k = omega arith
-low-zeros b (suc n) zero = omega arith
-low-zeros b (suc n) (suc k) = low-zeros b n k
-
 low-times : (b : ℕ) (fs : List Frames) → ((n : ℕ) → n < length fs → (k : ℕ) → getD (getD fs n noFrames .times) k 0 ≤ b) → (k : ℕ) → getD (allTimes fs) k 0 ≤ b
 unfolding flatMap
 low-times b [] h k = omega arith
@@ -65,7 +53,7 @@ low-times b (f ∷ fs) h k = low-append b (f .times) (allTimes fs) (h 0 (omega a
 
 low-padded : (b n : ℕ) (xs : List ℕ) → ((k : ℕ) → getD xs k 0 ≤ b) → (k : ℕ) → getD (padded n xs) k 0 ≤ b
 unfolding padded
-low-padded b n xs h = low-append b xs (replicate (n - length xs) 0) h (low-zeros b (n - length xs))
+low-padded b n xs h = low-append b xs (replicate (n - length xs) 0) h (λ k. omega (arith, zeros-at (n - length xs) k))
 
 -- ---- what the areas hold
 
@@ -98,15 +86,42 @@ module _ (fs : List Frames) {a : Areas} (is : a ≡ laid fs a) where
       rw (directory-is, times-are)
       (spot [] fs (replicate (length (a .directory) - length (pairs 0 fs)) 0) (replicate (length (a .times) - length (allTimes fs)) 0) n h)
 
--- ---- the step to gate j
+-- ---- what is known of gate j and its net, in three stages
+
+-- own, n in number, are the gate's times, and they keep within the limits: there is room for them, and the areas in which
+-- they are stored hold the plan with this gate
+pub record Fitting (file : List ℕ) (inputs j limit : ℕ) (a : Areas) (t : Totals) (g : GateRecord) (own : List ℕ) : Type 0 where
+  pub times : Own own
+  pub place : Place a (inputs + j) t (length own) (g .entries)
+  pub stepped : {a′ : Areas} {t′ : Totals} → Stored a a′ (inputs + j) t t′ (g .entries) own (inertialIndices (g .inertial) own) (flatMap (faninRow (g .delay) (spans file (g .list) (g .entries) (a .directory) (a .times))) own)
+      → Going file (j + 1) limit a′ t′
+
+-- own, n in number, are the gate's times
+pub record Timed (file : List ℕ) (inputs j limit : ℕ) (a : Areas) (t : Totals) (g : GateRecord) (own : List ℕ) (n : ℕ) : Type 0 where
+  pub too-long : mostFrames < n → fits limit (framesOf file (j + 1)) ≡ false
+  pub too-many : limit - t .frames < n → fits limit (framesOf file (j + 1)) ≡ false
+  pub fitting : n ≤ mostFrames → n ≤ limit - t .frames → Fitting file inputs j limit a t g own
+
+-- g is the gate's record
+pub record Step (file : List ℕ) (inputs j limit : ℕ) (a : Areas) (t : Totals) (g : GateRecord) : Type 0 where
+  pub wired : RecordWithin file (inputs + j) g
+  pub ready : Ready (a .directory) (a .times) (inputs + j)
+  pub few-nets : inputs + j < mostInputs + mostGates
+  pub frames-low : t .frames ≤ limit
+  pub limit-low : limit ≤ allFrames
+  -- the times as the code lends them: the first n of the row
+  pub timed : {row : List ℕ} {most n : ℕ} → Put row (gateTimes (g .delay) (spans file (g .list) (g .entries) (a .directory) (a .times))) most n
+      → Timed file inputs j limit a t g (take (n - 0) (drop 0 row)) n
+
+-- ---- and why it holds
 
 module _ (file : List ℕ) {inputs gates limit : ℕ} {a : Areas} (given : Given file inputs gates limit a) (j : ℕ) (l : j < gates)
     {t : Totals} (go : Going file j limit a t) {g : GateRecord} (ge : g ≡ recordOf file j) where
-  pub frames-low : t .frames ≤ limit
+  frames-low : t .frames ≤ limit
   unfolding totalsOf
   frames-low = omega (arith, ap (λ (x : Totals). x .frames) (go .totals), fits-total limit (framesOf file j) (go .fit))
 
-  pub limit-low : limit ≤ allFrames
+  limit-low : limit ≤ allFrames
   limit-low = given .limited
 
   frames-are : t .frames ≡ length (allTimes (framesOf file j))
@@ -133,7 +148,7 @@ module _ (file : List ℕ) {inputs gates limit : ℕ} {a : Areas} (given : Given
   early : (n : ℕ) → n < inputs + j → (k : ℕ) → getD (getD (framesOf file j) n noFrames .times) k 0 ≤ mostTime
   early n h = frames-early (circuitOf file) (circuit-within file (given .read)) j (omega (arith, gates-count file (given .read))) n (omega (arith, circuit-inputs file (given .read)))
 
-  pub ready : Ready (a .directory) (a .times) (inputs + j)
+  ready : Ready (a .directory) (a .times) (inputs + j)
   ready =
       record {
         pairs = omega (arith, count, room .directory);
@@ -144,10 +159,10 @@ module _ (file : List ℕ) {inputs gates limit : ℕ} {a : Areas} (given : Given
             (low-padded mostTime (length (a .times)) (allTimes (framesOf file j)) (low-times mostTime (framesOf file j) (λ n h. early n (omega (arith, count)))) i);
       }
 
-  pub wired : RecordWithin file (inputs + j) g
+  wired : RecordWithin file (inputs + j) g
   wired = rw ge (within file (given .read) j l)
 
-  pub few-nets : inputs + j < mostInputs + mostGates
+  few-nets : inputs + j < mostInputs + mostGates
   few-nets = omega (arith, few file (given .read))
 
   -- the spans of the fan-ins are the times of their frames
@@ -185,16 +200,13 @@ module _ (file : List ℕ) {inputs gates limit : ℕ} {a : Areas} (given : Given
     n-is = rw (← own-times) (p .size)
 
     -- the gate's own times, as the code lends them
-    pub part-is : take (n - 0) (drop 0 row) ≡ take n row
+    part-is : take (n - 0) (drop 0 row) ≡ take n row
     part-is = front row n
 
-    pub some : 1 ≤ n
-    some = omega (arith, n-is, start-some (nextFrames (circuitOf file) j .times) own-starts)
-
-    pub too-long : mostFrames < n → fits limit (framesOf file (j + 1)) ≡ false
+    too-long : mostFrames < n → fits limit (framesOf file (j + 1)) ≡ false
     too-long h = rw (nets-next file (given .read) j l) (fits-long limit (framesOf file j) (nextFrames (circuitOf file) j) (omega (arith, n-is)))
 
-    pub too-many : limit - t .frames < n → fits limit (framesOf file (j + 1)) ≡ false
+    too-many : limit - t .frames < n → fits limit (framesOf file (j + 1)) ≡ false
     too-many h = rw (nets-next file (given .read) j l) (fits-many limit (framesOf file j) (nextFrames (circuitOf file) j) (omega (arith, n-is, frames-are)))
 
     module _ (small : n ≤ mostFrames) (left : n ≤ limit - t .frames) where
@@ -220,20 +232,20 @@ module _ (file : List ℕ) {inputs gates limit : ℕ} {a : Areas} (given : Given
           ∙ length-append (allFanins (framesOf file j)) (flatten (nextFrames (circuitOf file) j .rows)) ∙ ap₂ _+_ (sym fanins-sum) rows-count
 
       -- the room that the gate's frames take
-      pub directory-room : 2 * (inputs + j) + 1 < length (a .directory)
+      directory-room : 2 * (inputs + j) + 1 < length (a .directory)
       directory-room = omega (arith, room-next .directory, length-append (framesOf file j) (nextFrames (circuitOf file) j ∷ []), count)
 
-      pub times-room : t .frames + n ≤ length (a .times)
+      times-room : t .frames + n ≤ length (a .times)
       times-room = omega (arith, room-next .times, total-more limit (framesOf file j) (nextFrames (circuitOf file) j), n-is, frames-are)
 
-      pub inertial-room : t .frames + n ≤ length (a .inertial)
+      inertial-room : t .frames + n ≤ length (a .inertial)
       inertial-room = omega (arith, room-next .inertial, total-more limit (framesOf file j) (nextFrames (circuitOf file) j), n-is, frames-are)
 
-      pub fanins-room : t .fanins + n * g .entries ≤ length (a .fanins)
+      fanins-room : t .fanins + n * g .entries ≤ length (a .fanins)
       fanins-room = omega (arith, room-next .fanins, fanins-more)
 
       -- how much there is
-      pub fanins-few : t .fanins + n * g .entries ≤ mostFanins * allFrames
+      fanins-few : t .fanins + n * g .entries ≤ mostFanins * allFrames
       fanins-few =
           let s = nets-sized file (given .read) (j + 1) (omega arith) in
           let w : length (allFanins (framesOf file j ++ (nextFrames (circuitOf file) j ∷ []))) ≤ mostFanins * length (allTimes (framesOf file j ++ (nextFrames (circuitOf file) j ∷ []))) =
@@ -244,10 +256,10 @@ module _ (file : List ℕ) {inputs gates limit : ℕ} {a : Areas} (given : Given
         own-is : own ≡ nextFrames (circuitOf file) j .times
         own-is = o ∙ row-is
 
-        pub own-length : length own ≡ n
+        own-length : length own ≡ n
         own-length = ap length own-is ∙ n-is
 
-        pub own-times-are : Own own
+        own-times-are : Own own
         own-times-are =
             record {
               starts = rw own-is (starts-test (nextFrames (circuitOf file) j .times) own-starts);
@@ -264,7 +276,7 @@ module _ (file : List ℕ) {inputs gates limit : ℕ} {a : Areas} (given : Given
             ∙ ap (flatMap (faninRow (gateAt (circuitOf file) j .delay) (faninTimes (circuitOf file) j))) own-is ∙ sym (next-rows (circuitOf file) j)
 
         -- what stands there after the gate is stored
-        module _ {a′ : Areas} (st : Stored a a′ (inputs + j) (t .frames) (t .fanins) own (inertialIndices (g .inertial) own) (flatMap (faninRow (g .delay) (spans file (g .list) (g .entries) (a .directory) (a .times))) own)) where
+        module _ {a′ : Areas} {t′ : Totals} (st : Stored a a′ (inputs + j) t t′ (g .entries) own (inertialIndices (g .inertial) own) (flatMap (faninRow (g .delay) (spans file (g .list) (g .entries) (a .directory) (a .times))) own)) where
           directory-next : a′ .directory ≡ padded (length (a′ .directory)) (pairs 0 (framesOf file j ++ (nextFrames (circuitOf file) j ∷ [])))
           directory-next =
               let q : t .frames ≡ 0 + length (allTimes (framesOf file j)) = omega (arith, frames-are) in
@@ -290,28 +302,45 @@ module _ (file : List ℕ) {inputs gates limit : ℕ} {a : Areas} (given : Given
               (pad-more (allFanins (framesOf file j)) (flatMap (faninRow (g .delay) (spans file (g .list) (g .entries) (a .directory) (a .times))) own) (t .fanins)
               (fanins-are (framesOf file j) (go .is)) (st .fanins-are) (sym fanins-sum) (rw rows-next (omega (arith, rows-count, fanins-room))))
 
-          last-next : {last : ℕ} → last ≡ max (t .last .0) (getD own (n - 1) 0) → last ≡ latest (allTimes (framesOf file j) ++ nextFrames (circuitOf file) j .times)
-          last-next e =
-              e ∙ ap₂ max last-is
-              (rw own-is (sym (latest-is (nextFrames (circuitOf file) j .times) own-starts ∙ ap (λ (m : ℕ). getD (nextFrames (circuitOf file) j .times) (m - 1) 0) n-is)))
+          last-next : t′ .last .0 ≡ latest (allTimes (framesOf file j) ++ nextFrames (circuitOf file) j .times)
+          last-next =
+              st .last-is ∙ ap₂ max last-is (rw own-is (sym (latest-is (nextFrames (circuitOf file) j .times) own-starts)))
               ∙ sym (latest-append (allTimes (framesOf file j)) (nextFrames (circuitOf file) j .times))
 
-          totals-next : {last : Time} → last .0 ≡ max (t .last .0) (getD own (n - 1) 0)
-              → _≡_ {A = Totals} (record { frames = t .frames + n; fanins = t .fanins + n * g .entries; last = last }) (totalsOf (framesOf file j ++ (nextFrames (circuitOf file) j ∷ [])))
+          totals-next : t′ ≡ totalsOf (framesOf file j ++ (nextFrames (circuitOf file) j ∷ []))
           unfolding totalsOf
-          totals-next {last} e =
-              let f : t .frames + n ≡ length (allTimes (framesOf file j) ++ nextFrames (circuitOf file) j .times) =
-              omega (arith, length-append (allTimes (framesOf file j)) (nextFrames (circuitOf file) j .times), n-is, frames-are) in
-              rw (times-snoc (framesOf file j) (nextFrames (circuitOf file) j), fanins-more, ← f, ← last-next e)
+          totals-next =
+              let f : t′ .frames ≡ length (allTimes (framesOf file j) ++ nextFrames (circuitOf file) j .times) =
+              omega (arith, st .frames-are, own-length, length-append (allTimes (framesOf file j)) (nextFrames (circuitOf file) j .times), n-is, frames-are) in
+              let w : t′ .fanins ≡ t .fanins + n * g .entries = st .fanins-count ∙ rw own-length in
+              rw (times-snoc (framesOf file j) (nextFrames (circuitOf file) j), fanins-more, ← f, ← w, ← last-next)
 
-          pub stepped : {last : Time} → last .0 ≡ max (t .last .0) (getD own (n - 1) 0)
-              → Going file (j + 1) limit a′ (record { frames = t .frames + n; fanins = t .fanins + n * g .entries; last = last })
-          stepped e =
+          stepped : Going file (j + 1) limit a′ t′
+          stepped =
               record {
                 is = rw (nets-next file (given .read) j l) (laid-is (framesOf file j ++ (nextFrames (circuitOf file) j ∷ [])) directory-next times-next inertial-area fanins-area);
-                totals = rw (nets-next file (given .read) j l) (totals-next e);
+                totals = rw (nets-next file (given .read) j l) totals-next;
                 fit = rw (nets-next file (given .read) j l) fit-next;
               }
+
+      place : Place a (inputs + j) t n (g .entries)
+      place =
+          record {
+            directory = directory-room;
+            inertial = inertial-room;
+            fanins = fanins-room;
+            few-frames = omega (arith, frames-low, limit-low);
+            few-fanins = fanins-few;
+          }
+
+      fitting : Fitting file inputs j limit a t g (take (n - 0) (drop 0 row))
+      fitting = record { times = own-times-are part-is; place = rw (own-length part-is) place; stepped = stepped part-is }
+
+    timed : Timed file inputs j limit a t g (take (n - 0) (drop 0 row)) n
+    timed = record { too-long = too-long; too-many = too-many; fitting = fitting }
+
+  pub step : Step file inputs j limit a t g
+  step = record { wired = wired; ready = ready; few-nets = few-nets; frames-low = frames-low; limit-low = limit-low; timed = timed }
 
 -- ---- what is reached
 

@@ -1,5 +1,5 @@
 -- What the planner's own functions promise each other, gate by gate. A reader of Plan's promise may skip this file.
-use Prim.Native.Nat.{ℕ, suc, _+_, _*_, _<_, _≤_}
+use Prim.Native.Nat.{ℕ, _+_, _-_, _*_, _<_, _≤_, max}
 use mathlib.Core.Path.{_≡_}
 use mathlib.Core.Bool.{true, false}
 use mathlib.Core.List.{List, [], _∷_, _++_, map}
@@ -8,13 +8,14 @@ use lib.Seq.{sets}
 use Rattle.lists.specs.Ladder.{accepted}
 use Rattle.lists.specs.Tables.{tabulate}
 use Rattle.lists.specs.Areas.{padded}
+use Rattle.method.specs.Kinds.{mostFanins}
 use Rattle.method.specs.Circuit.{Circuit}
 use Rattle.method.specs.Times.{insert, startAndRise}
-use Rattle.method.specs.Indices.{lastFrame, inertialIndices}
+use Rattle.method.specs.Indices.{lastFrame}
 use Rattle.method.specs.Frames.{Frames, inputFrames, frames}
 use Rattle.circuit.specs.File.{faninAt, circuitOf}
 use Rattle.circuit.specs.Limits.{mostGates, mostDelay}
-use Rattle.circuit.specs.Questions.{Size, readOf}
+use Rattle.circuit.specs.Questions.{readOf}
 use Rattle.planner.specs.declared.Totals.{Totals}
 use Rattle.planner.specs.declared.Added.{Added}
 use Rattle.planner.specs.declared.Added.the-variants as A
@@ -108,12 +109,25 @@ pub record Inputs (d t : List ℕ) (n : ℕ) : Type 0 where
   pub pairs-are : d ≡ padded (length d) (pairs 0 (tabulate n (λ (i : ℕ). inputFrames)))
   pub times-are : t ≡ padded (length t) (allTimes (tabulate n (λ (i : ℕ). inputFrames)))
 
--- the frames of a gate are stored: its pair, its times, its inertial indices, its fan-in rows
-pub record Stored (a a′ : Areas) (net first at : ℕ) (ts is fs : List ℕ) : Type 0 where
-  pub directory-is : a′ .directory ≡ sets (a .directory) (2 * net) (first ∷ length ts ∷ [])
-  pub times-are : a′ .times ≡ sets (a .times) first ts
-  pub inertial-is : a′ .inertial ≡ sets (a .inertial) first is
-  pub fanins-are : a′ .fanins ≡ sets (a .fanins) at fs
+-- there is room for a gate on this net with so many frames and entries, behind the frames and rows that are there; the
+-- totals stay small
+pub record Place (a : Areas) (net : ℕ) (t : Totals) (count entries : ℕ) : Type 0 where
+  pub directory : 2 * net + 1 < length (a .directory)
+  pub inertial : t .frames + count ≤ length (a .inertial)
+  pub fanins : t .fanins + count * entries ≤ length (a .fanins)
+  pub few-frames : t .frames + count ≤ allFrames
+  pub few-fanins : t .fanins + count * entries ≤ mostFanins * allFrames
+
+-- the frames of a gate with the times ts are stored: its pair, its times, its inertial indices, its fan-in rows; and the
+-- totals go from t to t′
+pub record Stored (a a′ : Areas) (net : ℕ) (t t′ : Totals) (entries : ℕ) (ts is fs : List ℕ) : Type 0 where
+  pub directory-is : a′ .directory ≡ sets (a .directory) (2 * net) (t .frames ∷ length ts ∷ [])
+  pub times-are : a′ .times ≡ sets (a .times) (t .frames) ts
+  pub inertial-is : a′ .inertial ≡ sets (a .inertial) (t .frames) is
+  pub fanins-are : a′ .fanins ≡ sets (a .fanins) (t .fanins) fs
+  pub frames-are : t′ .frames ≡ t .frames + length ts
+  pub fanins-count : t′ .fanins ≡ t .fanins + length ts * entries
+  pub last-is : t′ .last .0 ≡ max (t .last .0) (getD ts (length ts - 1) 0)
 
 -- the inputs and j gates are planned
 pub record Going (file : List ℕ) (j limit : ℕ) (a : Areas) (t : Totals) : Type 0 where

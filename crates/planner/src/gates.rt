@@ -1,14 +1,13 @@
 // The gates, one after the other: each is planned from the nets before it.
 ghost use mathlib.Core.Path.{_≡_};
 ghost use mathlib.Core.List.{flatMap};
-ghost use Prim.Native.Nat.{_+_, _*_, _≤_, _<_, max};
+ghost use Prim.Native.Nat.{_+_, _<_, max};
 ghost use lib.ListN.{length};
 ghost use Rattle.method.specs.Indices.{inertialIndices};
 ghost use Rattle.method.specs.Frames.{faninRow};
 ghost use Rattle.circuit.specs.Limits.{RecordWithin};
-ghost use Rattle.circuit.specs.File.{inputsOf};
 ghost use Rattle.planner.specs.Areas.{areas};
-ghost use Rattle.planner.specs.Steps.{Given, Going, Own, Reached, Ready, Stored, spans};
+ghost use Rattle.planner.specs.Steps.{Given, Going, Own, Place, Reached, Ready, Stored, spans};
 use crate::Added;
 use crate::Totals;
 use crate::indices::index_rows;
@@ -20,6 +19,9 @@ use method::Time;
 
 // A net has at most so many frames.
 const NET_FRAMES: usize = 64;
+
+// A row long enough for the times of any gate: 8 fan-ins of 64 frames each.
+const ROW_LENGTH: usize = 520;
 
 // Plans the gates, until one shows that there are too many frames.
 pub fn add_gates(
@@ -80,9 +82,7 @@ fn add_gate(
     let gate = circuit::gate_at(file, j);
     let net = Net(inputs + j);
     let first = totals.frames;
-    let at = totals.fanins;
-    let last = totals.last;
-    let mut row = [0u16; 520];
+    let mut row = [0u16; ROW_LENGTH];
     let count = gate_times(file, gate, net, directory, times, &mut row);
     if NET_FRAMES < count {
         return Added::TooMany;
@@ -91,7 +91,7 @@ fn add_gate(
         return Added::TooMany;
     }
     let own = &row[0..count];
-    store_gate(
+    Added::Now(store_gate(
         file,
         gate,
         net,
@@ -100,18 +100,11 @@ fn add_gate(
         times,
         inertial,
         fanins,
-        first as usize,
-        at as usize,
-    );
-    let end = own[count - 1];
-    Added::Now(Totals {
-        frames: first + count as u16,
-        fanins: at + count as u16 * gate.entries,
-        last: later_of(last, Time(end)),
-    })
+        totals,
+    ))
 }
 
-// Writes the frames of a gate with these times, and its pair.
+// Writes the frames of a gate with these times, and its pair; the totals with this gate.
 fn store_gate(
     file: &[u8],
     gate: GateRecord,
@@ -121,21 +114,30 @@ fn store_gate(
     times: &mut [u16],
     inertial: &mut [u16],
     fanins: &mut [u16],
-    first: usize,
-    at: usize,
-)
+    totals: Totals,
+) -> Totals
     requires { ⌜ RecordWithin (now file) (net .0) gate ⌝ }
     requires { ⌜ Ready (now directory) (now times) (net .0) ⌝ }
     requires { ⌜ Own (now own) ⌝ }
-    requires { ⌜ (first < 65536) × (2 * net .0 + 1 < length (now directory)) × (first + length (now own) ≤ length (now inertial)) × (at + length (now own) * gate .entries ≤ length (now fanins)) ⌝ }
-    ensures { λ _. ⌜ Stored (areas (now (directory .entry)) (now (times .entry)) (now (inertial .entry)) (now (fanins .entry))) (areas (now (directory .exit)) (now (times .exit)) (now (inertial .exit)) (now (fanins .exit))) (net .0) first at (now (own .entry)) (inertialIndices (gate .inertial) (now (own .entry))) (flatMap (faninRow (gate .delay) (spans (now (file .entry)) (gate .list) (gate .entries) (now (directory .entry)) (now (times .entry)))) (now (own .entry))) ⌝ }
+    requires { ⌜ Place (areas (now directory) (now times) (now inertial) (now fanins)) (net .0) totals (length (now own)) (gate .entries) ⌝ }
+    ensures { λ r. ⌜ Stored (areas (now (directory .entry)) (now (times .entry)) (now (inertial .entry)) (now (fanins .entry))) (areas (now (directory .exit)) (now (times .exit)) (now (inertial .exit)) (now (fanins .exit))) (net .0) totals r (gate .entries) (now (own .entry)) (inertialIndices (gate .inertial) (now (own .entry))) (flatMap (faninRow (gate .delay) (spans (now (file .entry)) (gate .list) (gate .entries) (now (directory .entry)) (now (times .entry)))) (now (own .entry))) ⌝ }
 {
-    inertial_row(own, gate.inertial, inertial, first);
-    index_rows(file, gate, net, directory, times, own, fanins, at);
-    lists::store(times, first, own);
+    let count = own.len();
+    let first = totals.frames;
+    let at = totals.fanins;
+    let last = totals.last;
+    inertial_row(own, gate.inertial, inertial, first as usize);
+    index_rows(file, gate, net, directory, times, own, fanins, at as usize);
+    lists::store(times, first as usize, own);
     let pair = 2 * (net.0 as usize);
-    directory[pair] = first as u16;
-    directory[pair + 1] = own.len() as u16;
+    directory[pair] = first;
+    directory[pair + 1] = count as u16;
+    let end = Time(own[count - 1]);
+    Totals {
+        frames: first + count as u16,
+        fanins: at + count as u16 * gate.entries,
+        last: later_of(last, end),
+    }
 }
 
 // The later of two times.

@@ -16,8 +16,15 @@ use circuit::Reading;
 use gates::add_gates;
 use method::Time;
 
-// At most so many frames in all.
+// All nets together have at most so many frames.
 const ALL_FRAMES: u16 = 2048;
+
+const DIRECTORY_LENGTH: usize = 320;
+
+// The length of the times, and of the inertial indices.
+const FRAME_LENGTH: usize = 2048;
+
+const FANIN_LENGTH: usize = 16384;
 
 // How many frames and how many fan-in entries there are, and the last potential time.
 pub struct Totals {
@@ -75,16 +82,16 @@ pub fn plan(
 fn areas_suit(directory: &[u16], times: &[u16], inertial: &[u16], fanins: &[u16]) -> bool
     ensures { λ r. ⌜ r ≡ areasSuit (areas (now (directory .entry)) (now (times .entry)) (now (inertial .entry)) (now (fanins .entry))) ⌝ }
 {
-    if directory.len() != 320 {
+    if directory.len() != DIRECTORY_LENGTH {
         return false;
     }
-    if times.len() != 2048 {
+    if times.len() != FRAME_LENGTH {
         return false;
     }
-    if inertial.len() != 2048 {
+    if inertial.len() != FRAME_LENGTH {
         return false;
     }
-    fanins.len() == 16384
+    fanins.len() == FANIN_LENGTH
 }
 
 // Fills the areas with the frames of all nets; if there are too many frames, with zeros.

@@ -11,6 +11,9 @@ Inv-loop turns₀ turns = Unit
 abbrev μ-loop : tie.MeasureT-loop
 μ-loop turns₀ turns = 1000000 - turns
 
+lengths-requires : tie.Need-lengths-requires Inv-loop μ-loop
+lengths-requires c κs = search needs
+
 loop-holds : tie.Need-loop-holds Inv-loop μ-loop
 loop-holds c = search needs
 
@@ -41,6 +44,7 @@ main-spec =
     (tie.spec
     Inv-loop
     μ-loop
+    lengths-requires
     loop-holds
     next-case-requires
     returns

@@ -3,7 +3,6 @@
 use mathlib.Core.Path.{sym}
 use native.Mathlib.Omega.{arith}
 use native.Mathlib.Nat.{max-eq-left, max-eq-right}
-use borrow.Author.Needs.{needs}
 use Rattle.planner.proofs.gates.later_of.Statement.{statement}
 use Rattle.planner.proofs.gates.later_of.Tie as tie
 

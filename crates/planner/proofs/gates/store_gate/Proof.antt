@@ -1,18 +1,29 @@
 -- `store_gate` meets its contract: each part is stored at its place; the times last, since the fan-in rows are read from them.
 -- Assumes nothing.
+use mathlib.Core.Path.{refl}
 use native.Mathlib.Omega.{arith}
 use denote.Ref.{now}
-use lib.ListN.{length, length-set}
+use lib.ListN.{length}
 use Rattle.planner.proofs.Laying.{pair-stored}
+use Rattle.planner.proofs.Indexing.{own-some}
 use borrow.Author.Needs.{needs}
 use Rattle.planner.proofs.gates.store_gate.Statement.{statement}
 use Rattle.planner.proofs.gates.store_gate.Tie as tie
 
+cast-inertial-row : tie.Need-cast-inertial-row
+cast-inertial-row c = search needs
+
 inertial-row-requires : tie.Need-inertial-row-requires
 inertial-row-requires c κs = search needs
 
+cast-index-rows : tie.Need-cast-index-rows
+cast-index-rows c = search needs
+
 index-rows-requires : tie.Need-index-rows-requires
-index-rows-requires c κs = let s = c .before .before .before .before .before .before .before .before .before .before .before .before .before in (s .pre .0, (s .pre .1 .0, (s .pre .1 .1 .0, s .pre .1 .1 .1 .3)))
+index-rows-requires c κs = let s = c .before .before .before .before .before .before .before .before .before .before .before .before .before .before in (s .pre .0, (s .pre .1 .0, (s .pre .1 .1 .0, s .pre .1 .1 .1 .fanins)))
+
+cast-store : tie.Need-cast-store
+cast-store c = search needs
 
 store-requires : tie.Need-store-requires
 store-requires c κs = search needs
@@ -23,17 +34,14 @@ cast-pair c = search needs
 mul-pair : tie.Need-mul-pair
 mul-pair c = search needs
 
-cast-directory : tie.Need-cast-directory
-cast-directory c = search needs
-
 mul-directory : tie.Need-mul-directory
 mul-directory c = search needs
 
 slice-write-directory : tie.Need-slice-write-directory
 slice-write-directory c = search needs
 
-cast-directory-2 : tie.Need-cast-directory-2
-cast-directory-2 c = search needs
+cast-directory : tie.Need-cast-directory
+cast-directory c = search needs
 
 add-directory : tie.Need-add-directory
 add-directory c = search needs
@@ -43,6 +51,33 @@ mul-directory-2 c = search needs
 
 slice-write-directory-2 : tie.Need-slice-write-directory-2
 slice-write-directory-2 c = search needs
+
+sub-t19 : tie.Need-sub-t19
+sub-t19 c = let s = c .before .before .before .before .before .before .before .before .before .before .before .before .before .before .before .before .before .before .before .before .before .before in omega (arith, own-some (now (s .args .own)) (s .pre .1 .1 .0 .starts))
+
+mul-t30 : tie.Need-mul-t30
+mul-t30 c = search needs
+
+shared-slice-read-t29 : tie.Need-shared-slice-read-t29
+shared-slice-read-t29 c = let s = c .before .before .before .before .before .before .before .before .before .before .before .before .before .before .before .before .before .before .before .before .before .before .before in omega (arith, own-some (now (s .args .own)) (s .pre .1 .1 .0 .starts))
+
+cast-t29 : tie.Need-cast-t29
+cast-t29 c = search needs
+
+add-t33 : tie.Need-add-t33
+add-t33 c = search needs
+
+cast-t34 : tie.Need-cast-t34
+cast-t34 c = search needs
+
+mul-t35 : tie.Need-mul-t35
+mul-t35 c = omega (arith, c .before .before .before .before .before .before .before .before .before .before .before .before .before .before .before .before .before .before .before .before .before .before .before .before .pre .1 .1 .1 .few-fanins)
+
+add-t36 : tie.Need-add-t36
+add-t36 c = omega (arith, c .before .before .before .before .before .before .before .before .before .before .before .before .before .before .before .before .before .before .before .before .before .before .before .before .pre .1 .1 .1 .few-fanins)
+
+later-of-requires : tie.Need-later-of-requires
+later-of-requires c κs = search needs
 
 same-length : tie.Need-same-length
 same-length c = search needs
@@ -57,24 +92,45 @@ same-length-4 : tie.Need-same-length-4
 same-length-4 c = search needs
 
 returns : tie.Need-returns
-returns c = let s = c .before .before .before .before .before .before .before .before .before .before .before .before .before .before .before .before .before .before .before .before .before in record { directory-is = pair-stored (now (s .args .directory)) (s .args .net .0) (s .args .first) (length (now (s .args .own))); times-are = c .before .before .before .store .ensures; inertial-is = c .before .before .before .before .before .before .before .before .before .before .before .before .before .inertial-row .ensures; fanins-are = c .before .before .before .before .before .before .before .index-rows .ensures }
+returns c =
+    let s = c .before .before .before .before .before .before .before .before .before .before .before .before .before .before .before .before .before .before .before .before .before .before .before .before .before in
+    record {
+      directory-is = pair-stored (now (s .args .directory)) (s .args .net .0) (s .args .totals .frames) (length (now (s .args .own)));
+      times-are = c .before .before .before .before .before .before .store .ensures;
+      inertial-is = c .before .before .before .before .before .before .before .before .before .before .before .before .before .before .before .before .inertial-row .ensures;
+      fanins-are = c .before .before .before .before .before .before .before .before .before .before .index-rows .ensures;
+      frames-are = refl;
+      fanins-count = refl;
+      last-is = c .later-of .ensures;
+    }
 
 pub store-gate-spec : {M : Type 1} → statement M
 store-gate-spec =
     tie.close
     (tie.spec
+    cast-inertial-row
     inertial-row-requires
+    cast-index-rows
     index-rows-requires
+    cast-store
     store-requires
     cast-pair
     mul-pair
-    cast-directory
     mul-directory
     slice-write-directory
-    cast-directory-2
+    cast-directory
     add-directory
     mul-directory-2
     slice-write-directory-2
+    sub-t19
+    mul-t30
+    shared-slice-read-t29
+    cast-t29
+    add-t33
+    cast-t34
+    mul-t35
+    add-t36
+    later-of-requires
     same-length
     same-length-2
     same-length-3

@@ -1,6 +1,6 @@
 -- `index_rows` meets its contract: the rows from frame k on are still to be stored; the hints hold at its time.
 -- Assumes nothing.
-use Prim.Native.Nat.{_+_, _-_, _*_, _≤_, _<_}
+use Prim.Native.Nat.{_+_, _-_, _*_, _<_}
 use mathlib.Core.Path.{_≡_, refl}
 use mathlib.Core.List.{flatMap}
 use lib.ListN.{length, getD, drop}

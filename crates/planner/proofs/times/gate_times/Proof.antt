@@ -1,7 +1,7 @@
 -- `gate_times` meets its contract: the times of the fan-ins from e on are still to be put in.
 -- Assumes nothing.
 use Prim.Native.Nat.{_+_, _-_, _*_, _≤_, _<_}
-use mathlib.Core.Path.{_≡_, sym, _∙_}
+use mathlib.Core.Path.{_≡_, _∙_}
 use mathlib.Core.List.{[], _∷_}
 use lib.ListN.{length, take, drop, length-set}
 use lib.Seq.{length-take-le}

@@ -1,0 +1,73 @@
+// What Plan answers, printed: the totals or the number, and a sum of each area as it is left.
+ghost use Prim.Native.Nat.{_≤_, _<_};
+use libc::STDOUT_FILENO;
+use planner::Planning;
+
+// Plans the file in areas that hold 7 everywhere, and prints the answer and the sums.
+pub fn show_plan(file: &[u8]) {
+    let mut directory = [7u16; 320];
+    let mut times = [7u16; 2048];
+    let mut inertial = [7u16; 2048];
+    let mut fanins = [7u16; 16384];
+    show_planning(planner::plan(file, &mut directory, &mut times, &mut inertial, &mut fanins));
+    show_sum(&directory);
+    show_sum(&times);
+    show_sum(&inertial);
+    show_sum(&fanins);
+}
+
+// Plans a circuit of one input in areas of these lengths, and prints the lengths and the answer.
+pub fn show_lengths(directory: usize, times: usize, inertial: usize, fanins: usize)
+    requires { ⌜ (directory ≤ 400) × (times ≤ 2100) × (inertial ≤ 2100) × (fanins ≤ 16400) ⌝ }
+{
+    let mut d = [7u16; 400];
+    let mut t = [7u16; 2100];
+    let mut i = [7u16; 2100];
+    let mut f = [7u16; 16400];
+    io::write_all(STDOUT_FILENO, b"lengths");
+    show_number(directory as u64);
+    show_number(times as u64);
+    show_number(inertial as u64);
+    show_number(fanins as u64);
+    io::write_all(STDOUT_FILENO, b";");
+    show_planning(planner::plan(
+        b"\x01\x00\x00\x00",
+        &mut d[0..directory],
+        &mut t[0..times],
+        &mut i[0..inertial],
+        &mut f[0..fanins],
+    ));
+    io::write_all(STDOUT_FILENO, b"\n");
+}
+
+fn show_planning(answer: Planning) {
+    match answer {
+        Planning::Planned(totals) => {
+            let last = totals.last;
+            io::write_all(STDOUT_FILENO, b" planned");
+            show_number(totals.frames as u64);
+            show_number(totals.fanins as u64);
+            show_number(last.0 as u64);
+        }
+        Planning::Refused(number) => {
+            io::write_all(STDOUT_FILENO, b" refused");
+            show_number(number as u64);
+        }
+    }
+}
+
+fn show_number(n: u64) {
+    io::write_all(STDOUT_FILENO, b" ");
+    io::print_decimal(STDOUT_FILENO, n);
+}
+
+// A sum that tells the places of the numbers.
+fn show_sum(area: &[u16]) {
+    let mut sum: u32 = 0;
+    let mut k = 0;
+    while k < area.len() {
+        sum = (31 * sum + area[k] as u32 + 1) % 65521;
+        k += 1;
+    }
+    show_number(sum as u64);
+}
