@@ -37,7 +37,7 @@ same-length-2 : tie.Need-same-length-2
 same-length-2 c = search needs
 
 returns : tie.Need-returns
-returns c = reached-many _ _ _ _ (known (c .before .before .before .before .before .before) .timed (c .before .before .gate-times .ensures) .too-long (c .if1 .taken))
+returns c = reached-many _ _ _ _ (known (c .before .before .before .before .before .before) .timed (c .before .before .gate-times .ensures) .too-long (omega (arith, c .if1 .taken)))
 
 sub-if2 : tie.Need-sub-if2
 sub-if2 c = omega (arith, known (c .before .before .before .before .before .before) .frames-low)
@@ -52,7 +52,7 @@ same-length-4 : tie.Need-same-length-4
 same-length-4 c = search needs
 
 returns-2 : tie.Need-returns-2
-returns-2 c = reached-many _ _ _ _ (known (c .before .before .before .before .before .before .before) .timed (c .before .before .before .gate-times .ensures) .too-many (c .if2 .taken))
+returns-2 c = reached-many _ _ _ _ (known (c .before .before .before .before .before .before .before) .timed (c .before .before .before .gate-times .ensures) .too-many (omega (arith, c .if2 .taken)))
 
 sub-own : tie.Need-sub-own
 sub-own c = search needs
@@ -66,7 +66,7 @@ part-own-end c = search needs
 store-gate-requires : tie.Need-store-gate-requires
 store-gate-requires c κs =
     let k = known (c .before .before .before .before .before .before .before .before .before .before .before .before .before) in
-    let f = k .timed (c .before .before .before .before .before .before .before .before .before .gate-times .ensures) .fitting (c .before .before .before .before .before .before .before .if1 .left) (c .before .before .before .before .before .before .if2 .left) in
+    let f = k .timed (c .before .before .before .before .before .before .before .before .before .gate-times .ensures) .fitting (omega (arith, c .before .before .before .before .before .before .before .if1 .left)) (omega (arith, c .before .before .before .before .before .before .if2 .left)) in
     (k .wired, (k .ready, (f .times, f .place)))
 
 same-length-5 : tie.Need-same-length-5
@@ -82,7 +82,7 @@ same-length-8 : tie.Need-same-length-8
 same-length-8 c = search needs
 
 returns-3 : tie.Need-returns-3
-returns-3 c = reached-now _ _ _ _ _ (known (c .before .before .before .before .before .before .before .before .before .before .before .before .before .before .before .before .before .before .before .before .before .before) .timed (c .before .before .before .before .before .before .before .before .before .before .before .before .before .before .before .before .before .before .gate-times .ensures) .fitting (c .before .before .before .before .before .before .before .before .before .before .before .before .before .before .before .before .if1 .left) (c .before .before .before .before .before .before .before .before .before .before .before .before .before .before .before .if2 .left) .stepped (c .before .before .before .before .before .before .before .before .store-gate .ensures))
+returns-3 c = reached-now _ _ _ _ _ (known (c .before .before .before .before .before .before .before .before .before .before .before .before .before .before .before .before .before .before .before .before .before .before) .timed (c .before .before .before .before .before .before .before .before .before .before .before .before .before .before .before .before .before .before .gate-times .ensures) .fitting (omega (arith, c .before .before .before .before .before .before .before .before .before .before .before .before .before .before .before .before .if1 .left)) (omega (arith, c .before .before .before .before .before .before .before .before .before .before .before .before .before .before .before .if2 .left)) .stepped (c .before .before .before .before .before .before .before .before .store-gate .ensures))
 
 pub add-gate-spec : {M : Type 1} → statement M
 add-gate-spec =
