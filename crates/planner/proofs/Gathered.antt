@@ -8,12 +8,12 @@ use native.Mathlib.Omega.{arith}
 use native.Mathlib.Numerals.{add-one}
 use lib.Dec.{eqb}
 use lib.ListN.{length, getD, take, drop, set, drop-of-length-le}
-use lib.Seq.{drop-cons, take-at}
+use lib.Seq.{drop-cons}
 use borrow.Author.Tests.{le-ltb, ne-eqb}
 use Rattle.lists.proofs.Choices.{or-swap}
 use Rattle.method.specs.Times.{insert, rising, shifted, gateTimes, among}
 use Rattle.method.proofs.Rising.{Rise, Starts, rise-ext, insert-rise, insert-among, Above, among-append, rising-rise, rising-among, all-shifted-above}
-use Rattle.planner.specs.Steps.{Inserted, into}
+use Rattle.planner.specs.Steps.{into}
 
 -- the later times of each of these nets, plus d, inserted one after the other
 unfoldable pub gather : ℕ → List (List ℕ) → List ℕ → List ℕ
@@ -39,9 +39,6 @@ module _ (rows : List (List ℕ)) (d e : ℕ) (ts : List ℕ) {w : List ℕ} (h 
   pub gather-end : length rows ≤ e → ts ≡ w
   unfolding gather
   gather-end b = sym (h ∙ rw (drop-of-length-le rows b))
-
-pub inserted : {row row′ : List ℕ} {count t r : ℕ} → Inserted row row′ count t r → insert t (take count row) ≡ take r row′
-inserted {row} {row′} {count} {t} {r} i = sym (rw (i .row-is) (take-at (insert t (take count row)) _ r (sym (i .count-is))))
 
 -- a row of one
 pub one-in : (row : List ℕ) → 0 < length row → 0 ∷ [] ≡ take 1 (set row 0 0)

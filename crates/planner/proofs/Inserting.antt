@@ -4,14 +4,15 @@ use Prim.Native.Nat.{ℕ, zero, suc, _+_, _-_, _<_, _≤_}
 use mathlib.Core.Path.{_≡_, refl, sym, _∙_, ap}
 use mathlib.Core.List.{List, [], _∷_, _++_, append-assoc}
 use lib.ListN.{length, getD, take, drop, set, length-append, length-drop, List·getD-append, take-append-drop, drop-of-length-le}
-use lib.Seq.{take-suc, drop-cons, getD-take, length-take-le, set-at, take-take}
+use lib.Seq.{take-suc, drop-cons, getD-take, length-take-le, set-at, take-take, take-at}
 use native.Mathlib.Omega.{arith}
-use native.Mathlib.Nat.{zero-add, sub-zero}
+use native.Mathlib.Nat.{sub-zero}
 use native.Mathlib.Numerals.{add-one}
 use borrow.Author.Tests.{lt-ltb, le-ltb, le-leb, lt-leb, eq-eqb, ne-eqb}
 use Rattle.lists.specs.Tables.{leading}
-use Rattle.lists.proofs.Choices.{less, same, more, tri}
-use Rattle.lists.proofs.Leading.{leading-most}
+use mathlib.Core.Logic.{inl, inr}
+use Rattle.lists.proofs.Choices.{order, less, same, more, tri}
+use Rattle.lists.proofs.Leading.{leading-most, leading-skip}
 use Rattle.method.specs.Times.{insert}
 use Rattle.planner.specs.Steps.{Inserted}
 
@@ -70,15 +71,26 @@ there e (x ∷ xs) h l =
           rw (le-ltb (suc e) x (omega arith), ne-eqb (suc e) x (omega arith)) (ap (λ (m : List ℕ). x ∷ m) (there e xs h′ (omega arith)))
     ]
 
+-- what is inserted leaves those before its place at the front
+pub place-later : (f e : ℕ) → f ≤ e → (l : List ℕ) → leading f l ≤ leading e (insert (suc f) l)
+unfolding leading
+place-later f e h [] = omega arith
+place-later f e h (x ∷ xs) =
+    elim (order x f) [
+      | inl k ↦ rw (le-leb x f k, le-ltb (suc f) x (omega arith), ne-eqb (suc f) x (omega arith), le-leb x e (omega arith)) (omega (arith, place-later f e h xs))
+      | inr k ↦ rw (lt-leb x f k) (omega arith)
+    ]
+
 -- a part of the row from 0 on, as the code lends it
 pub front : (row : List ℕ) (count : ℕ) → take (count - 0) (drop 0 row) ≡ take count row
 front row count = rw (sub-zero count)
 
--- what the search answers, of the first `count` of the row
-pub place : (row : List ℕ) (count e : ℕ) {p : ℕ} → p ≡ 0 + leading e (drop 0 (take (count - 0) (drop 0 row))) → p ≡ leading e (take count row)
-place row count e h = h ∙ rw (zero-add, front row count)
+-- what the search from `from` on answers, of the first `count` of the row, where the place is not before
+pub place-found : (row : List ℕ) (count from e : ℕ) → from ≤ leading e (take count row) → {p : ℕ} → p ≡ from + leading e (drop from (take (count - 0) (drop 0 row)))
+    → p ≡ leading e (take count row)
+place-found row count from e h q = q ∙ rw (front row count) (sym (leading-skip e from (take count row) h))
 
--- ---- the cases of `insert_time`: p is the place of t among the first `count` of the row
+-- ---- the cases of `put_time`: p is the place of t among the first `count` of the row
 
 module _ (row : List ℕ) (count t : ℕ) (fits : count < length row) (pos : 1 ≤ t) {p : ℕ} (h : p ≡ leading (t - 1) (take count row)) where
   n : length (take count row) ≡ count
@@ -117,3 +129,16 @@ module _ (row : List ℕ) (count t : ℕ) (fits : count < length row) (pos : 1 �
         row-is = rw (new, front, append-assoc, whole) (set-at (take p row) _ rest t p size);
         most = omega arith;
       }
+
+-- ---- after a time was put in
+
+pub inserted : {row row′ : List ℕ} {count t r : ℕ} → Inserted row row′ count t r → insert t (take count row) ≡ take r row′
+inserted {row} {row′} {count} {t} {r} i = sym (rw (i .row-is) (take-at (insert t (take count row)) _ r (sym (i .count-is))))
+
+-- the place of a later time is not before
+pub place-next : {row row′ : List ℕ} {count t r : ℕ} → Inserted row row′ count t r → 1 ≤ t → {p : ℕ} → p ≡ leading (t - 1) (take count row) → (t′ : ℕ) → t ≤ t′ → p ≤ leading (t′ - 1) (take r row′)
+place-next {row} {row′} {count} {t} {r} i pos {p} q t′ h =
+    let e : t ≡ suc (t - 1) = (let z : t ≡ (t - 1) + 1 = omega arith in z) ∙ add-one (t - 1) in
+    let l : leading (t - 1) (take count row) ≤ leading (t′ - 1) (insert (suc (t - 1)) (take count row)) = place-later (t - 1) (t′ - 1) (omega arith) (take count row) in
+    let same : insert (suc (t - 1)) (take count row) ≡ take r row′ = ap (λ (x : ℕ). insert x (take count row)) (sym e) ∙ inserted i in
+    rw (← same) (omega arith)

@@ -1,10 +1,12 @@
 // The times of one gate, gathered in a row from the times of its fan-ins.
 ghost use mathlib.Core.Path.{_≡_};
-ghost use Prim.Native.Nat.{ℕ, _+_, _*_, _≤_, _<_};
+ghost use Prim.Native.Nat.{ℕ, _+_, _-_, _*_, _≤_, _<_};
+ghost use mathlib.Core.Bool.{true};
 ghost use mathlib.Core.List.{_++_};
 ghost use lib.ListN.{length, getD, take, drop};
 ghost use Rattle.method.specs.Kinds.{mostFanins};
-ghost use Rattle.method.specs.Times.{gateTimes};
+ghost use Rattle.lists.specs.Tables.{leading};
+ghost use Rattle.method.specs.Times.{gateTimes, startAndRise};
 ghost use Rattle.circuit.specs.Limits.{mostDelay, RecordWithin};
 ghost use Rattle.planner.specs.Limits.{mostFrames};
 ghost use Rattle.planner.specs.Steps.{Inserted, Put, Ready, into, mostTime, span, spans};
@@ -52,36 +54,39 @@ pub fn times_of<'a>(directory: &[u16], times: &'a [u16], net: Net) -> &'a [u16]
     &times[first..end]
 }
 
-// Puts the later times of a fan-in, each plus the delay, in their places among the first `count` of the row.
+// Puts the later times of a fan-in, each plus the delay, in their places among the first `count` of the row. They rise, so
+// each place is sought from the one before.
 fn add_times(fanin: &[u16], delay: u16, row: &mut [u16], count: usize) -> usize
-    requires { ⌜ ((i : ℕ) → getD (now fanin) i 0 ≤ mostTime) ⌝ }
+    requires { ⌜ (startAndRise (now fanin) ≡ true) × ((i : ℕ) → getD (now fanin) i 0 ≤ mostTime) ⌝ }
     requires { ⌜ (1 ≤ delay) × (delay ≤ mostDelay) × (count + length (now fanin) < length (now row)) ⌝ }
     ensures { λ r. ⌜ Put (now (row .exit)) (into delay (drop 1 (now (fanin .entry))) (take count (now (row .entry)))) (count + length (now (fanin .entry))) r ⌝ }
 {
     let mut n = count;
+    let mut place = 0;
     let mut k = 1;
     while k < fanin.len() {
-        n = insert_time(row, n, Time(fanin[k] + delay));
+        let t = fanin[k] + delay;
+        place = lists::first_above(&row[0..n], place, t - 1);
+        n = put_time(row, n, place, Time(t));
         k += 1;
     }
     n
 }
 
-// Puts a time, not 0, in its place among the first `count` of the row, unless it is there; how many there are then.
-fn insert_time(row: &mut [u16], count: usize, time: Time) -> usize
-    requires { ⌜ (count < length (now row)) × (1 ≤ time .0) ⌝ }
+// Puts a time, not 0, at its place among the first `count` of the row, unless it is there; how many there are then.
+fn put_time(row: &mut [u16], count: usize, place: usize, time: Time) -> usize
+    requires { ⌜ (count < length (now row)) × (1 ≤ time .0) × (place ≡ leading (time .0 - 1) (take count (now row))) ⌝ }
     ensures { λ r. ⌜ Inserted (now (row .entry)) (now (row .exit)) count (time .0) r ⌝ }
 {
     let t = time.0;
-    let p = lists::first_above(&row[0..count], 0, t - 1);
-    if p < count {
-        let here = row[p];
+    if place < count {
+        let here = row[place];
         if here == t {
             return count;
         }
     }
-    shift(row, p, count);
-    row[p] = t;
+    shift(row, place, count);
+    row[place] = t;
     count + 1
 }
 

@@ -44,7 +44,7 @@ add-times-requires c κs =
     let n = c .before .before .fanin-at .result .0 in
     let l = low (c .before .before) in
     let few : length (now (c .before .times-of .result)) ≤ mostFrames = rw (c .before .times-of .ensures) (span-few (s .pre .1 .0) n l) in
-    ((λ i. rw (c .before .times-of .ensures) (span-early (s .pre .1 .0) n l i)), (s .pre .0 .delay-least, s .pre .0 .delay-most, omega (arith, s .pre .0 .entries-most, s .pre .1 .1, length-set (now (s .args .row)) 0 0)))
+    ((rw (c .before .times-of .ensures) (s .pre .1 .0 .starts n l), λ i. rw (c .before .times-of .ensures) (span-early (s .pre .1 .0) n l i)), (s .pre .0 .delay-least, s .pre .0 .delay-most, omega (arith, s .pre .0 .entries-most, s .pre .1 .1, length-set (now (s .args .row)) 0 0)))
 
 add-e : tie.Need-add-e Inv-loop μ-loop
 add-e c = search needs
