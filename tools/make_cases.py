@@ -76,19 +76,22 @@ def sums(areas):
     for area in areas:
         s = 0
         for x in area:
-            s = (31 * s + x + 1) % 65521
+            s = (17 * s + x + 1) % 65521
         out.append(str(s))
     return " ".join(out)
 
 
+def untouched(lengths):
+    return [[7] * n for n in lengths]
+
+
 def good(inputs, records):
     answer, areas = plan(inputs, records)
-    cases.append((file_of(inputs, records), f"accepted {inputs} {len(records)}; {answer} {sums(areas)}"))
+    cases.append((file_of(inputs, records), f"accepted {inputs} {len(records)}; {answer} {sums(areas)}; refused 10"))
 
 
 def bad(data, number):
-    untouched = [[7] * n for n in LENGTHS]
-    cases.append((data, f"refused {number}; refused {number} {sums(untouched)}"))
+    cases.append((data, f"refused {number}; refused {number} {sums(untouched(LENGTHS))}; refused {number}"))
 
 
 BUF, NOT, AND, OR, XNOR = 0, 1, 2, 4, 7
@@ -171,24 +174,32 @@ good(1, [buf, Record(AND, 5, 9, [0, 1, 0, 1]), Record(XNOR, 1, 63, [0, 0])])
 # ---- question 13
 
 
+def count(inputs, gates):
+    """How many frames each net has."""
+    return [len(times) for times, _, _ in frames(inputs, gates)]
+
+
 def comb(n):
     """One net with n frames, n from 57 to 65: eight delayed copies of a net of eight later times, merged."""
     gates = [Record(BUF, 1 + k, 0, [0]) for k in range(8)] + [Record(OR, 1, 0, list(range(1, 9)))]
     for d in (1, 9, 17, 25, 33, 41, 49, 49 + n - 57):
         gates.append(Record(NOT, d, 0, [9]))
     gates.append(Record(AND, 7, 5, list(range(10, 18))))
+    assert count(1, gates)[-1] == n
     return gates
 
 
-def copies(inputs, total):
-    """So many frames in all: a comb with a net of 64 and nets of 9, and copies of those and of an input."""
+def copies(inputs, total, fanins):
+    """So many frames in all: a comb with a net of 64 and nets of 9, and copies of those and of an input. A copy of the net
+    of 64 names it so many times in its fan-in list."""
     gates = [Record(g.kind, g.d, g.di, [f + inputs - 1 if f else 0 for f in g.fanins]) for g in comb(64)]
-    counts = [len(times) for times, _, _ in frames(inputs, gates)]
+    counts = count(inputs, gates)
     rest = total - sum(counts)
     big, nine = rest // 64 - 1, rest % 2
-    two_frames = (rest - 64 * big - 9 * nine) // 2
-    for net in [counts.index(64)] * big + [counts.index(9)] * nine + [0] * two_frames:
-        gates.append(Record(BUF, 1 + len(gates) % 3, 2, [net]))
+    small = (rest - 64 * big - 9 * nine) // 2
+    gates += [Record(BUF if fanins == 1 else AND, 1 + k % 3, 2, [counts.index(64)] * fanins) for k in range(big)]
+    gates += [Record(BUF, 2, 0, [net]) for net in [counts.index(9)] * nine + [0] * small]
+    assert sum(count(inputs, gates)) == total
     return gates
 
 
@@ -197,7 +208,8 @@ for n in range(57, 66):
 good(1, comb(65) + [buf])
 for inputs in (1, 2, 32):
     for total in (2047, 2048, 2049):
-        good(inputs, copies(inputs, total))
+        good(inputs, copies(inputs, total, 1))
+        good(inputs, copies(inputs, total, 8))
 
 
 # ---- at random
@@ -244,8 +256,8 @@ with open("crates/cases/stdin", "wb") as f:
     f.write((70001).to_bytes(4, "little"))  # one case too long ends the run
 with open("crates/cases/stdout", "w") as f:
     for l in lengths:
-        answer = "planned 2 0 1" if l == LENGTHS else "refused 10"
-        f.write("lengths " + " ".join(map(str, l)) + "; " + answer + "\n")
+        answer, areas = plan(1, []) if l == LENGTHS else ("refused 10", untouched(l))
+        f.write("lengths " + " ".join(map(str, l)) + f"; {answer} {sums(areas)}\n")
     f.writelines(line + "\n" for _, line in cases)
     f.write("cut\n")
 print(len(cases), "cases,", sum("planned" in line for _, line in cases), "planned,", sum("refused 13" in line for _, line in cases), "refused with 13")

@@ -1,8 +1,9 @@
 // The test program. Standard input is a row of cases, each a length of four bytes, little-endian, and a circuit file of
 // that length. Standard output has a line a case: what the reader answers, `accepted I G` or `refused` and the number; what
-// Plan answers, `planned` and the three totals or `refused` and the number; and a sum of each area as Plan leaves it. It
-// stops at the end of the input; where it stops before that, at a case that is cut short or longer than 70,000 bytes or
-// after a million cases, it prints `cut`. Before the cases come lines for areas of other lengths.
+// Plan answers, `planned` and the three totals or `refused` and the number, with a sum of each area as Plan leaves it; and
+// what Plan answers where the directory is too short. It stops at the end of the input; where it stops before that, at a
+// case that is cut short or longer than 70,000 bytes or after a million cases, it prints `cut`. Before the cases come lines
+// for areas of other lengths.
 ghost use Prim.Native.Nat.{_<_};
 
 mod plans;
@@ -12,6 +13,7 @@ use libc::STDIN_FILENO;
 use libc::STDOUT_FILENO;
 use plans::show_lengths;
 use plans::show_plan;
+use plans::show_short;
 
 fn main() {
     lengths();
@@ -25,7 +27,7 @@ fn main() {
     end_of_turns();
 }
 
-// Areas of the right lengths, then one area too short or too long.
+// Areas of the right lengths, then one area too short or too long, then none of any length.
 fn lengths() {
     show_lengths(320, 2048, 2048, 16384);
     show_lengths(319, 2048, 2048, 16384);
@@ -86,6 +88,8 @@ fn show_case(file: &mut [u8]) -> bool {
     show_reading(file);
     io::write_all(STDOUT_FILENO, b";");
     show_plan(file);
+    io::write_all(STDOUT_FILENO, b";");
+    show_short(file);
     io::write_all(STDOUT_FILENO, b"\n");
     true
 }

@@ -1,22 +1,42 @@
-// What Plan answers, printed: the totals or the number, and a sum of each area as it is left.
+// What Plan answers, printed: the totals or the number, and a sum of each area as it is left. Every area holds 7 everywhere
+// before.
 ghost use Prim.Native.Nat.{_≤_, _<_};
 use libc::STDOUT_FILENO;
 use planner::Planning;
 
-// Plans the file in areas that hold 7 everywhere, and prints the answer and the sums.
+// Plans the file, and prints the answer and the sums.
 pub fn show_plan(file: &[u8]) {
     let mut directory = [7u16; 320];
     let mut times = [7u16; 2048];
     let mut inertial = [7u16; 2048];
     let mut fanins = [7u16; 16384];
-    show_planning(planner::plan(file, &mut directory, &mut times, &mut inertial, &mut fanins));
-    show_sum(&directory);
-    show_sum(&times);
-    show_sum(&inertial);
-    show_sum(&fanins);
+    plan_in(file, &mut directory, &mut times, &mut inertial, &mut fanins);
 }
 
-// Plans a circuit of one input in areas of these lengths, and prints the lengths and the answer.
+fn plan_in(
+    file: &[u8],
+    directory: &mut [u16],
+    times: &mut [u16],
+    inertial: &mut [u16],
+    fanins: &mut [u16],
+) {
+    show_planning(planner::plan(file, directory, times, inertial, fanins));
+    show_sum(directory);
+    show_sum(times);
+    show_sum(inertial);
+    show_sum(fanins);
+}
+
+// Plans the file in areas of which the directory is too short, and prints the answer.
+pub fn show_short(file: &[u8]) {
+    let mut directory = [7u16; 319];
+    let mut times = [7u16; 2048];
+    let mut inertial = [7u16; 2048];
+    let mut fanins = [7u16; 16384];
+    show_planning(planner::plan(file, &mut directory, &mut times, &mut inertial, &mut fanins));
+}
+
+// Plans a circuit of one input in areas of these lengths, and prints the lengths, the answer and the sums.
 pub fn show_lengths(directory: usize, times: usize, inertial: usize, fanins: usize)
     requires { ⌜ (directory ≤ 400) × (times ≤ 2100) × (inertial ≤ 2100) × (fanins ≤ 16400) ⌝ }
 {
@@ -30,13 +50,13 @@ pub fn show_lengths(directory: usize, times: usize, inertial: usize, fanins: usi
     show_number(inertial as u64);
     show_number(fanins as u64);
     io::write_all(STDOUT_FILENO, b";");
-    show_planning(planner::plan(
+    plan_in(
         b"\x01\x00\x00\x00",
         &mut d[0..directory],
         &mut t[0..times],
         &mut i[0..inertial],
         &mut f[0..fanins],
-    ));
+    );
     io::write_all(STDOUT_FILENO, b"\n");
 }
 
@@ -61,12 +81,12 @@ fn show_number(n: u64) {
     io::print_decimal(STDOUT_FILENO, n);
 }
 
-// A sum that tells the places of the numbers.
+// Prints a sum in which each place of the area has a weight of its own.
 fn show_sum(area: &[u16]) {
     let mut sum: u32 = 0;
     let mut k = 0;
     while k < area.len() {
-        sum = (31 * sum + area[k] as u32 + 1) % 65521;
+        sum = (17 * sum + area[k] as u32 + 1) % 65521;
         k += 1;
     }
     show_number(sum as u64);

@@ -1,4 +1,5 @@
--- What the limits of a circuit give the method: no feedback, and potential times that fit into two bytes.
+-- What the limits of a circuit give the method: no feedback, and potential times that fit into two bytes; and they hold of
+-- its first gates too.
 -- Assumes nothing.
 use Prim.Native.Nat.{ℕ, zero, suc, _+_, _-_, _*_, _≤_, _<_}
 use mathlib.Core.Path.{_≡_, refl}
@@ -6,11 +7,12 @@ use mathlib.Core.Bool.{true}
 use mathlib.Core.List.{List, [], _∷_}
 use native.Mathlib.Omega.{arith}
 use native.Mathlib.Nat.{mul-le-mul-left}
-use lib.ListN.{length, getD}
+use lib.ListN.{length, getD, take}
+use lib.Seq.{length-take-le}
 use Rattle.method.specs.Circuit.{Gate, Circuit, noGate, gateAt, NoFeedback, DelaysUpTo}
 use Rattle.method.specs.Agreement.{potential}
 use Rattle.method.proofs.Agreement.{agreement}
-use Rattle.circuit.specs.Limits.{mostGates, mostDelay, GateWithin, GatesWithin, Within}
+use Rattle.circuit.specs.Limits.{mostGates, mostDelay, mostTime, GateWithin, GatesWithin, Within}
 
 -- gate j, which drives net + j
 gate-at : (net : ℕ) (gs : List Gate) → GatesWithin net gs → (j own : ℕ) → own ≡ net + j → j < length gs → GateWithin own (getD gs j noGate)
@@ -32,10 +34,29 @@ module _ (c : Circuit) (w : Within c) where
   pub time-most : (n t : ℕ) → potential c n t ≡ true → t ≤ 1 + mostDelay * (n + 1 - c .inputs)
   time-most n t e = agreement .times-bounded c mostDelay delays-most n t e
 
-  -- and there are at most 128 gates, so two bytes suffice
-  pub time-small : (n t : ℕ) → n < c .inputs + length (c .gates) → potential c n t ≡ true → t < 65536
-  time-small n t h e =
+  -- and there are at most 128 gates
+  pub time-low : (n t : ℕ) → n < c .inputs + length (c .gates) → potential c n t ≡ true → t ≤ mostTime
+  time-low n t h e =
       let few : n + 1 - c .inputs ≤ mostGates = omega (arith, w .gates-most) in
       let most : mostDelay * (n + 1 - c .inputs) ≤ mostDelay * mostGates = mul-le-mul-left mostDelay few in
       let last : t ≤ 1 + mostDelay * (n + 1 - c .inputs) = time-most n t e in
       omega arith
+
+  -- so two bytes suffice
+  pub time-small : (n t : ℕ) → n < c .inputs + length (c .gates) → potential c n t ≡ true → t < 65536
+  time-small n t h e = omega (arith, time-low n t h e)
+
+-- the inputs and the first gates keep the limits too
+first-gates : (net j : ℕ) (gs : List Gate) → GatesWithin net gs → GatesWithin net (take j gs)
+first-gates net zero gs w = tt
+first-gates net (suc j) [] w = tt
+first-gates net (suc j) (g ∷ gs) w = (w .0, first-gates (suc net) j gs (w .1))
+
+pub within-first : (c : Circuit) (j : ℕ) → j ≤ length (c .gates) → Within c → Within (record { inputs = c .inputs; gates = take j (c .gates) })
+within-first c j h w =
+    record {
+      inputs-least = w .inputs-least;
+      inputs-most = w .inputs-most;
+      gates-most = rw (length-take-le j (c .gates) h) (omega (arith, w .gates-most));
+      gates-within = first-gates (c .inputs) j (c .gates) (w .gates-within);
+    }

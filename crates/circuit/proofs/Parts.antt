@@ -11,11 +11,12 @@ use borrow.Author.Tests.{ltb-true}
 use Rattle.lists.specs.Ladder.{accepted}
 use Rattle.lists.specs.Tables.{tabulate, allBelow}
 use Rattle.lists.proofs.Tabled.{from-length, tabulate-at, every-from}
+use Rattle.method.specs.Kinds.{mostFanins}
 use Rattle.method.specs.Circuit.{Gate}
 use Rattle.method.proofs.Taking.{takes-range}
 use Rattle.circuit.specs.declared.GateRecord.{GateRecord}
 use Rattle.circuit.specs.File.{inputsOf, gatesOf, faninAt, faninsOf, gateOf, recordOf, circuitOf}
-use Rattle.circuit.specs.Limits.{GateWithin, RecordWithin}
+use Rattle.circuit.specs.Limits.{mostDelay, GateWithin}
 use Rattle.circuit.specs.Questions.{Size, readOf}
 use Rattle.circuit.proofs.Accepted.{passed}
 use Rattle.circuit.proofs.Faithful.{gate-within}
@@ -40,6 +41,15 @@ unfolding gateOf recordOf faninsOf
 gate-from file j = refl
 
 -- ---- the limits of a record
+
+-- what questions 6 to 9 leave of the record of a gate that drives this net
+pub record RecordWithin (file : List ℕ) (net : ℕ) (r : GateRecord) : Type 0 where
+  pub delay-least : 1 ≤ r .delay
+  pub delay-most : r .delay ≤ mostDelay
+  pub inertial-most : r .inertial ≤ mostDelay
+  pub entries-least : 1 ≤ r .entries
+  pub entries-most : r .entries ≤ mostFanins
+  pub below : (i : ℕ) → i < r .entries → faninAt file (r .list) i < net
 
 all-below : (net : ℕ) (f : ℕ → ℕ) (n : ℕ) → allBelow net (tabulate n f) ≡ true → (i : ℕ) → i < n → f i < net
 unfolding allBelow

@@ -1,15 +1,13 @@
 -- The limits of a circuit: what an accepted file's circuit keeps, and what a circuit must keep to have a file.
-use Prim.Native.Nat.{ℕ, suc, _≤_, _<_}
+use Prim.Native.Nat.{ℕ, suc, _+_, _*_, _≤_}
 use mathlib.Core.Path.{_≡_}
 use mathlib.Core.Bool.{Bool, true, _&&_}
 use mathlib.Core.List.{List, [], _∷_}
 use lib.ListN.{length}
 use Rattle.lists.specs.Tables.{allBelow}
 use Rattle.lists.specs.Ladder.{between}
-use Rattle.method.specs.Kinds.{takes, mostFanins}
+use Rattle.method.specs.Kinds.{takes}
 use Rattle.method.specs.Circuit.{Gate, Circuit}
-use Rattle.circuit.specs.declared.GateRecord.{GateRecord}
-use Rattle.circuit.specs.File.{faninAt}
 
 abbrev pub mostInputs : ℕ
 mostInputs = 32
@@ -20,6 +18,10 @@ mostGates = 128
 -- of either delay
 abbrev pub mostDelay : ℕ
 mostDelay = 63
+
+-- no potential time of a circuit within the limits is later: 1, and the greatest delay for each gate
+abbrev pub mostTime : ℕ
+mostTime = 1 + mostDelay * mostGates
 
 -- d is from 1 to 63, and di from 0 to 63
 unfoldable pub delaysSuit : ℕ → ℕ → Bool
@@ -43,12 +45,3 @@ pub record Within (c : Circuit) : Type 0 where
   pub inputs-most : c .inputs ≤ mostInputs
   pub gates-most : length (c .gates) ≤ mostGates
   pub gates-within : GatesWithin (c .inputs) (c .gates)
-
--- what questions 6 to 9 leave of the record, taken apart, of a gate that drives this net
-pub record RecordWithin (file : List ℕ) (net : ℕ) (r : GateRecord) : Type 0 where
-  pub delay-least : 1 ≤ r .delay
-  pub delay-most : r .delay ≤ mostDelay
-  pub inertial-most : r .inertial ≤ mostDelay
-  pub entries-least : 1 ≤ r .entries
-  pub entries-most : r .entries ≤ mostFanins
-  pub below : (i : ℕ) → i < r .entries → faninAt file (r .list) i < net

@@ -1,8 +1,9 @@
--- A loop that stores a row into an area, one number a turn: after k turns the numbers from k on are still to be stored.
+-- A loop that stores a row into an area, one number a turn: after k turns the numbers from k on are still to be stored;
+-- and a row stored in two parts.
 -- Assumes nothing.
 use Prim.Native.Nat.{ℕ, suc, _≤_, _<_, _+_}
 use mathlib.Core.Path.{_≡_, refl, sym, _∙_}
-use mathlib.Core.List.{List, [], _∷_}
+use mathlib.Core.List.{List, [], _∷_, _++_}
 use native.Mathlib.Omega.{arith}
 use native.Mathlib.Nat.{add-zero, add-suc}
 use native.Mathlib.Numerals.{add-one}
@@ -34,3 +35,8 @@ all {area₀} {row} {area} {at} {k} f h = sym (f .is ∙ rw (drop-of-length-le r
 
 pub full : {area₀ row area : List ℕ} {at k : ℕ} → Left area₀ at row area k → length area ≤ at + k → area ≡ sets area₀ at row
 full {area₀} {row} {area} {at} {k} f h = sym (f .is ∙ sets-out area (at + k) (drop k row) h)
+
+-- a row in two parts is stored one part after the other
+pub sets-append : (area : List ℕ) (i : ℕ) (xs ys : List ℕ) → sets area i (xs ++ ys) ≡ sets (sets area i xs) (i + length xs) ys
+sets-append area i [] ys = rw add-zero
+sets-append area i (x ∷ xs) ys = sets-append (set area i x) (suc i) xs ys ∙ rw (let q : suc i + length xs ≡ i + suc (length xs) = omega arith in q)

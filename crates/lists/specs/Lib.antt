@@ -1,5 +1,7 @@
--- What every crate's definitions use of lists: questions in order, areas, tables of values, one entry added after the other.
+-- What every crate's definitions use of lists: questions in order, areas, tables of values, the front of a list, one entry
+-- added after the other.
 pub mod Ladder
 pub mod Areas
 pub mod Tables
+pub mod Front
 pub mod Grow

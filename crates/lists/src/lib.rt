@@ -1,12 +1,12 @@
-// Clearing and storing in a lent area, a search in a row of numbers, and a test that many questions ask. The crate's definitions and laws on
-// lists serve every other crate.
+// Clearing and storing in a lent area, a search in a row of numbers, and a test that many questions ask. The crate's
+// definitions and laws on lists serve every other crate.
 ghost use mathlib.Core.Path.{_≡_};
 ghost use Prim.Native.Nat.{_+_};
 ghost use lib.ListN.{drop};
 ghost use lib.Seq.{sets};
 ghost use Rattle.lists.specs.Areas.{cleared};
 ghost use Rattle.lists.specs.Ladder.{between};
-ghost use Rattle.lists.specs.Tables.{leading};
+ghost use Rattle.lists.specs.Front.{leading};
 
 // Sets every number of the area to 0.
 pub fn clear(area: &mut [u16])
@@ -47,7 +47,7 @@ pub fn store(area: &mut [u16], at: usize, row: &[u16])
     }
 }
 
-// The first place from `from` on whose number is above the limit, or the end where there is none.
+// The first place from `from` on whose number is above the limit; where there is none, the row's end, or `from` beyond it.
 pub fn first_above(row: &[u16], from: usize, limit: u16) -> usize
     ensures { λ r. ⌜ r ≡ from + leading limit (drop from (now (row .entry))) ⌝ }
 {

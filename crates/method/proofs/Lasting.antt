@@ -7,7 +7,7 @@ use mathlib.Core.List.{List, [], _∷_}
 use native.Mathlib.Omega.{arith}
 use lib.ListN.{length, getD, drop}
 use borrow.Author.Tests.{le-leb, lt-leb}
-use Rattle.lists.specs.Tables.{leading}
+use Rattle.lists.specs.Front.{leading}
 use Rattle.lists.proofs.Choices.{order}
 use Rattle.method.specs.Indices.{lastFrom, lastFrame, faninIndex, upTo}
 use Rattle.method.proofs.Rising.{Rise, Starts, rise-lower}

@@ -1,4 +1,5 @@
--- The frames of a circuit's nets: those of every trace, whatever the pattern; they start at 0 and rise; and how late they get.
+-- The frames of a circuit's nets: those of every trace, whatever the pattern; they start at 0 and rise; how many indices
+-- they have, and how late they get.
 -- Assumes nothing.
 use Prim.Native.Nat.{ℕ, zero, suc, _+_, _-_, _*_, _≤_, zero-le}
 use mathlib.Core.Path.{_≡_, refl, sym, ap, ap₂, _∙_}
@@ -6,9 +7,9 @@ use mathlib.Core.Logic.{inl, inr}
 use mathlib.Core.Bool.{true, false, false≢true}
 use mathlib.Core.List.{List, [], _∷_, _++_, map, flatMap, Forall₂, Forall₂·nil, Forall₂·cons}
 use native.Mathlib.Omega.{arith}
-use native.Mathlib.Nat.{mul-suc, mul-le-mul-left}
+use native.Mathlib.Nat.{mul-suc, suc-mul, zero-mul, mul-le-mul-left}
 use lib.Dec.{eqb}
-use lib.ListN.{length, getD, List·getD-eq-default}
+use lib.ListN.{length, getD, length-append, length-map, List·getD-eq-default}
 use borrow.Author.Tests.{eqb-true, eq-eqb}
 use Rattle.lists.specs.Tables.{tabulate}
 use Rattle.lists.proofs.Choices.{either, order, or-cases}
@@ -17,7 +18,8 @@ use Rattle.lists.proofs.ByNumber.{grow-each}
 use Rattle.method.specs.Circuit.{Gate, Circuit, noGate, DelaysUpTo}
 use Rattle.method.specs.Stimulus.{Stimuli}
 use Rattle.method.specs.Times.{shifted, rising, gateTimes, among}
-use Rattle.method.specs.Frames.{Frames, inputFrames, framesWith, gateFrames, noFrames, frames, framesAt}
+use Rattle.method.specs.Indices.{faninIndex, inertialIndices}
+use Rattle.method.specs.Frames.{Frames, inputFrames, faninRow, framesWith, gateFrames, noFrames, frames, framesAt}
 use Rattle.method.specs.Traces.{Trace, inputTrace, gateTrace, noTrace, traces, traceAt}
 use Rattle.method.proofs.Nets.{nets-rel}
 use Rattle.method.proofs.Rising.{Starts, rising-among, among-append}
@@ -48,6 +50,21 @@ times-start c n =
     let s : Stimuli = λ (i : ℕ). record { before = false; after = false } in
     rw (frames-are c s n) (follows c s n .starts)
 
+-- ---- how many indices there are
+
+pub inertial-length : (di : ℕ) (ts : List ℕ) → length (inertialIndices di ts) ≡ length ts
+inertial-length di [] = refl
+inertial-length di (t ∷ ts) = ap suc (inertial-length di ts)
+
+pub rows-length : (d : ℕ) (ss : List (List ℕ)) (ts : List ℕ) → length (flatMap (faninRow d ss) ts) ≡ length ts * length ss
+unfolding flatMap
+rows-length d ss [] = sym (zero-mul (length ss))
+rows-length d ss (t ∷ ts) =
+    let a : length (faninRow d ss t) ≡ length ss = length-map ss (λ (s : List ℕ). faninIndex d s t) in
+    let b = rows-length d ss ts in
+    let e : suc (length ts) * length ss ≡ length ts * length ss + length ss = suc-mul (length ts) (length ss) in
+    omega (arith, length-append (faninRow d ss t) (flatMap (faninRow d ss) ts))
+
 -- ---- how late they get
 
 -- no time of the list is after `end`
@@ -72,6 +89,11 @@ ends-head end x ts k = k x (rw (eq-eqb x x refl))
 
 pub ends-tail : (end x : ℕ) (ts : List ℕ) → Ends end (x ∷ ts) → Ends end ts
 ends-tail end x ts k t e = k t (elim (either (eqb t x)) [ inl q ↦ rw q | inr q ↦ rw q e ])
+
+pub ends-at : (end : ℕ) (ts : List ℕ) → Ends end ts → (k : ℕ) → getD ts k 0 ≤ end
+ends-at end [] h k = omega arith
+ends-at end (t ∷ ts) h zero = ends-head end t ts h
+ends-at end (t ∷ ts) h (suc k) = ends-at end ts (ends-tail end t ts h) k
 
 shifted-ends : (d end : ℕ) (ss : List ℕ) → Ends end ss → Ends (end + d) (shifted d ss)
 shifted-ends d end [] k = ends-nil (end + d)

@@ -8,7 +8,7 @@ use lib.Dec.{eqb}
 use lib.ListN.{length}
 use borrow.Author.Tests.{eq-eqb, ne-eqb}
 use Rattle.lists.specs.Areas.{cleared}
-use Rattle.planner.specs.Limits.{directoryLength, frameLength, faninLength}
+use Rattle.planner.specs.Limits.{directoryLength, timesLength, faninsLength}
 use Rattle.planner.specs.Areas.{areas, allCleared}
 use Rattle.planner.specs.Questions.{areasSuit}
 
@@ -18,16 +18,16 @@ module _ (d t i f : List ℕ) where
   directory-no n = rw (ne-eqb _ _ n)
 
   module _ (y1 : length d ≡ directoryLength) where
-    pub times-no : (length t ≡ frameLength → ⊥) → false ≡ areasSuit (areas d t i f)
+    pub times-no : (length t ≡ timesLength → ⊥) → false ≡ areasSuit (areas d t i f)
     unfolding areasSuit
     times-no n = simp (eq-eqb _ _ y1, ne-eqb _ _ n)
 
-    module _ (y2 : length t ≡ frameLength) where
-      pub inertial-no : (length i ≡ frameLength → ⊥) → false ≡ areasSuit (areas d t i f)
+    module _ (y2 : length t ≡ timesLength) where
+      pub inertial-no : (length i ≡ timesLength → ⊥) → false ≡ areasSuit (areas d t i f)
       unfolding areasSuit
       inertial-no n = simp (eq-eqb _ _ y1, eq-eqb _ _ y2, ne-eqb _ _ n)
 
-      pub fanins-last : length i ≡ frameLength → eqb (length f) faninLength ≡ areasSuit (areas d t i f)
+      pub fanins-last : length i ≡ timesLength → eqb (length f) faninsLength ≡ areasSuit (areas d t i f)
       unfolding areasSuit
       fanins-last y3 = simp (eq-eqb _ _ y1, eq-eqb _ _ y2, eq-eqb _ _ y3)
 

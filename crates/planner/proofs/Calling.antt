@@ -3,42 +3,37 @@
 use Prim.Native.Nat.{ℕ, _≤_}
 use mathlib.Core.Path.{_≡_, refl, sym, _∙_}
 use mathlib.Core.Bool.{Bool, true, false, not}
-use mathlib.Core.List.{List, [], _∷_}
+use mathlib.Core.List.{List, []}
 use native.Mathlib.Omega.{arith}
 use lib.Dec.{eqb}
 use lib.ListN.{length}
 use borrow.Author.Tests.{eqb-true, ne-eqb, not-true, not-false}
-use Rattle.lists.specs.Ladder.{_orElse_, firstNo, accepted, refused, unless}
+use Rattle.lists.specs.Ladder.{firstNo, accepted, refused, unless}
 use Rattle.lists.proofs.Choices.{and-left, and-right}
 use Rattle.lists.proofs.Ladders.{first, first-here, first-most, firstNo-append, ask-yes, ask-no, all-asked, accepted-none, refused-some, unless-none, unless-some}
 use Rattle.method.specs.Frames.{Frames, frames}
-use Rattle.circuit.specs.File.{circuitOf}
+use Rattle.circuit.specs.File.{inputsOf, gatesOf, circuitOf}
 use Rattle.circuit.specs.declared.Reading.{Reading}
 use Rattle.circuit.specs.declared.Reading.the-variants as R
 use Rattle.circuit.specs.Questions as reader
 use Rattle.circuit.proofs.Gated.{questions-numbered}
+use Rattle.circuit.proofs.Parts.{gates-length}
 use Rattle.planner.specs.declared.Totals.{Totals}
-use Rattle.planner.specs.declared.Added.{Added}
-use Rattle.planner.specs.declared.Added.the-variants as A
-use Rattle.planner.specs.declared.Planning.the-variants as P
-use Rattle.planner.specs.Limits.{allFrames, directoryLength, frameLength, faninLength}
+use Rattle.planner.specs.declared.Progress.{Progress}
+use Rattle.planner.specs.declared.Progress.the-variants as P
+use Rattle.planner.specs.declared.Planning.the-variants as Q
+use Rattle.planner.specs.Limits.{mostTotalFrames, directoryLength, timesLength, faninsLength}
 use Rattle.planner.specs.Areas.{Areas, allCleared}
 use Rattle.planner.specs.Layout.{allTimes, laid}
-use Rattle.planner.specs.Questions.{areasSuit, fits, questions}
+use Rattle.planner.specs.Questions.{areasSuit, fits, ownQuestions, questions}
 use Rattle.planner.specs.Plan.{totalsOf, leftBy, outcome, planOf, onPaper}
 use Rattle.planner.specs.Steps.{framesOf, Given, Reached, Filled}
 use Rattle.planner.proofs.Prefix.{frames-all}
 use Rattle.planner.proofs.Fitting.{fits-total}
-use Rattle.planner.proofs.Accepted.{gates-count, few, nets-count, nets-sized}
+use Rattle.planner.proofs.Accepted.{inputs-are, gates-are, few, nets-count, nets-sized}
+use Rattle.planner.proofs.Stepping.{never, Alike}
 
 -- ---- all gates
-
--- areas as long as these
-pub record Alike (a a′ : Areas) : Type 0 where
-  pub directory : length (a′ .directory) ≡ length (a .directory)
-  pub times : length (a′ .times) ≡ length (a .times)
-  pub inertial : length (a′ .inertial) ≡ length (a .inertial)
-  pub fanins : length (a′ .fanins) ≡ length (a .fanins)
 
 laid-alike : (fs : List Frames) {a a′ : Areas} → Alike a a′ → laid fs a′ ≡ laid fs a
 unfolding laid
@@ -48,54 +43,52 @@ cleared-alike : {a a′ : Areas} → Alike a a′ → allCleared a′ ≡ allCle
 unfolding allCleared
 cleared-alike l = rw (l .directory, l .times, l .inertial, l .fanins)
 
-module _ (file : List ℕ) {inputs gates limit : ℕ} {a : Areas} (given : Given file inputs gates limit a) {a′ : Areas} {r : Added} (h : Reached file gates limit a′ r) where
-  all : framesOf file gates ≡ frames (circuitOf file)
-  all = frames-all (circuitOf file) gates (sym (gates-count file (given .read)))
+module _ (file : List ℕ) {gates : ℕ} (all : gates ≡ gatesOf file) {a′ : Areas} {r : Progress} (h : Reached file gates a′ r) where
+  nets-all : framesOf file gates ≡ frames (circuitOf file)
+  nets-all = frames-all (circuitOf file) gates (all ∙ sym (gates-length file))
 
-  pub filled-now : (t : Totals) → r ≡ A.Now t → Alike a a′ → Filled file limit a a′ (A.Now t)
+  pub filled-now : {a : Areas} (t : Totals) → r ≡ P.Planned t → Alike a a′ → Filled file a a′ (P.Planned t)
   filled-now t e l =
       let o = h .planned t e in
       record {
-        fit = λ u q. rw all at (o .fit);
-        totals = λ u q. (let s : u ≡ t = cc in s ∙ (rw all at (o .totals)));
-        filled = λ u q. (rw all at (o .is)) ∙ laid-alike (frames (circuitOf file)) l;
-        stopped = λ q. absurd (let z : _≡_ {A = ℕ} 0 1 = cc in omega arith);
-        emptied = λ q. absurd (let z : _≡_ {A = ℕ} 0 1 = cc in omega arith);
+        fit = λ u q. rw nets-all at (o .fit);
+        totals = λ u q. (let s : u ≡ t = cc in s ∙ (rw nets-all at (o .totals)));
+        filled = λ u q. (rw nets-all at (o .is)) ∙ laid-alike (frames (circuitOf file)) l;
+        stopped = λ q. absurd (never q);
+        emptied = λ q. absurd (never q);
       }
 
-  pub filled-none : r ≡ A.TooMany → {b : Areas} → b ≡ allCleared a′ → Alike a a′ → Filled file limit a b A.TooMany
+  pub filled-none : r ≡ P.TooMany → {a b : Areas} → b ≡ allCleared a′ → Alike a a′ → Filled file a b P.TooMany
   filled-none e c l =
       record {
-        fit = λ u q. absurd (let z : _≡_ {A = ℕ} 0 1 = cc in omega arith);
-        totals = λ u q. absurd (let z : _≡_ {A = ℕ} 0 1 = cc in omega arith);
-        filled = λ u q. absurd (let z : _≡_ {A = ℕ} 0 1 = cc in omega arith);
-        stopped = λ q. rw all at (h .stopped e);
+        fit = λ u q. absurd (never (sym q));
+        totals = λ u q. absurd (never (sym q));
+        filled = λ u q. absurd (never (sym q));
+        stopped = λ q. rw nets-all at (h .stopped e);
         emptied = λ q. c ∙ cleared-alike l;
       }
 
 -- ---- question 10 gives room for every plan that fits
 
-suited : (a : Areas) → areasSuit a ≡ true → (length (a .directory) ≡ directoryLength) × (length (a .times) ≡ frameLength) × (length (a .inertial) ≡ frameLength) × (length (a .fanins) ≡ faninLength)
+suited : (a : Areas) → areasSuit a ≡ true → (length (a .directory) ≡ directoryLength) × (length (a .times) ≡ timesLength) × (length (a .inertial) ≡ timesLength) × (length (a .fanins) ≡ faninsLength)
 unfolding areasSuit
 suited a e =
     let e2 = and-right (eqb (length (a .directory)) directoryLength) _ e in
-    let e3 = and-right (eqb (length (a .times)) frameLength) _ e2 in (
+    let e3 = and-right (eqb (length (a .times)) timesLength) _ e2 in (
       eqb-true _ _ (and-left (eqb (length (a .directory)) directoryLength) _ e),
-      eqb-true _ _ (and-left (eqb (length (a .times)) frameLength) _ e2),
-      eqb-true _ _ (and-left (eqb (length (a .inertial)) frameLength) _ e3),
-      eqb-true _ _ (and-right (eqb (length (a .inertial)) frameLength) _ e3),
+      eqb-true _ _ (and-left (eqb (length (a .times)) timesLength) _ e2),
+      eqb-true _ _ (and-left (eqb (length (a .inertial)) timesLength) _ e3),
+      eqb-true _ _ (and-right (eqb (length (a .inertial)) timesLength) _ e3),
     )
 
-pub given-all : (file : List ℕ) {inputs gates : ℕ} (a : Areas) → reader.readOf file ≡ accepted (record { inputs = inputs; gates = gates }) → areasSuit a ≡ true → Given file inputs gates allFrames a
-given-all file {inputs} {gates} a e y =
+given-all : (file : List ℕ) (a : Areas) → reader.readOf file ≡ accepted (record { inputs = inputsOf file; gates = gatesOf file }) → areasSuit a ≡ true → Given file a
+given-all file a e y =
     let l = suited a y in
     let n = few file e in
     record {
       read = e;
-      limited = omega arith;
-      start = omega arith;
       room = λ j h fit.
-          let total : length (allTimes (framesOf file j)) ≤ allFrames = fits-total allFrames (framesOf file j) fit in
+          let total : length (allTimes (framesOf file j)) ≤ mostTotalFrames = fits-total (framesOf file j) fit in
           record {
             directory = omega (arith, nets-count file e j h);
             times = omega arith;
@@ -124,17 +117,17 @@ module _ (file : List ℕ) (a : Areas) where
   unfolding planOf
   planned e = rw e
 
-  refusal : {n : ℕ} → firstNo (questions file a) ≡ n → 1 ≤ n → {b : Areas} → b ≡ leftBy n (frames (circuitOf file)) a → outcome (onPaper (P.Refused n)) b ≡ planOf file a
+  refusal : {n : ℕ} → firstNo (questions file a) ≡ n → 1 ≤ n → {b : Areas} → b ≡ leftBy n (frames (circuitOf file)) a → outcome (onPaper (Q.Refused n)) b ≡ planOf file a
   unfolding onPaper
   refusal {n} e h l = sym (planned e ∙ rw (unless-some n (totalsOf (frames (circuitOf file))) (λ z. omega arith), ← l))
 
-  joined : firstNo (questions file a) ≡ first (firstNo (reader.questions file)) (firstNo ((areasSuit a orElse 10) ∷ (fits allFrames (frames (circuitOf file)) orElse 13) ∷ []))
+  joined : firstNo (questions file a) ≡ first (firstNo (reader.questions file)) (firstNo (ownQuestions file a))
   unfolding questions
-  joined = firstNo-append 9 (reader.questions file) ((areasSuit a orElse 10) ∷ (fits allFrames (frames (circuitOf file)) orElse 13) ∷ []) (questions-numbered file)
+  joined = firstNo-append 9 (reader.questions file) (ownQuestions file a) (questions-numbered file)
 
   module _ {r : Reading} (f : reader.onPaper r ≡ reader.readOf file) where
     -- 1 to 9
-    pub plan-read : {n : ℕ} → r ≡ R.Refused n → outcome (onPaper (P.Refused n)) a ≡ planOf file a
+    pub plan-read : {n : ℕ} → r ≡ R.Refused n → outcome (onPaper (Q.Refused n)) a ≡ planOf file a
     unfolding reader.onPaper reader.readOf
     plan-read {n} e =
         let g : unless (firstNo (reader.questions file)) (reader.sizeOf file) ≡ refused n = sym f ∙ rw e in
@@ -144,32 +137,39 @@ module _ (file : List ℕ) (a : Areas) where
         refusal m (q .1) (sym (left-other n (frames (circuitOf file)) a (q .1) (omega (arith, q .0))))
 
     module _ {inputs gates : ℕ} (e : r ≡ R.Accepted inputs gates) where
-      pub read-yes : reader.readOf file ≡ accepted (record { inputs = inputs; gates = gates })
+      answered : reader.readOf file ≡ accepted (record { inputs = inputs; gates = gates })
       unfolding reader.onPaper
-      read-yes = sym f ∙ rw e
+      answered = sym f ∙ rw e
 
-      rest : firstNo (questions file a) ≡ firstNo ((areasSuit a orElse 10) ∷ (fits allFrames (frames (circuitOf file)) orElse 13) ∷ [])
+      rest : firstNo (questions file a) ≡ firstNo (ownQuestions file a)
       unfolding reader.readOf
       rest =
-          let q : firstNo (reader.questions file) ≡ 0 = accepted-none (firstNo (reader.questions file)) (reader.sizeOf file) read-yes .0 in
+          let q : firstNo (reader.questions file) ≡ 0 = accepted-none (firstNo (reader.questions file)) (reader.sizeOf file) answered .0 in
           joined ∙ rw q
 
-      pub plan-10 : {ok : Bool} → ok ≡ areasSuit a → not ok ≡ true → outcome (onPaper (P.Refused 10)) a ≡ planOf file a
+      pub plan-10 : {ok : Bool} → ok ≡ areasSuit a → not ok ≡ true → outcome (onPaper (Q.Refused 10)) a ≡ planOf file a
       plan-10 {ok} is n =
           refusal (rest ∙ ask-no (areasSuit a) 10 _ (sym is ∙ not-true ok n)) (omega arith) (sym (left-other 10 (frames (circuitOf file)) a (omega arith) (omega arith)))
 
       module _ {ok : Bool} (is : ok ≡ areasSuit a) (y : not ok ≡ false) where
-        pub suits : areasSuit a ≡ true
+        suits : areasSuit a ≡ true
         suits = sym is ∙ not-false ok y
 
-        module _ {q : Added} {b : Areas} (h : Filled file allFrames a b q) where
-          pub plan-13 : q ≡ A.TooMany → outcome (onPaper (P.Refused 13)) b ≡ planOf file a
+        -- what filling asks
+        pub fill-given : Given file a × (inputs ≡ inputsOf file) × (gates ≡ gatesOf file)
+        fill-given =
+            let i = inputs-are file answered in
+            let g = gates-are file answered in
+            (given-all file a (answered ∙ rw (i, g)) suits, i, g)
+
+        module _ {q : Progress} {b : Areas} (h : Filled file a b q) where
+          pub plan-13 : q ≡ P.TooMany → outcome (onPaper (Q.Refused 13)) b ≡ planOf file a
           plan-13 z =
-              refusal (rest ∙ ask-yes (areasSuit a) 10 _ suits ∙ ask-no (fits allFrames (frames (circuitOf file))) 13 [] (h .stopped z)) (omega arith)
+              refusal (rest ∙ ask-yes (areasSuit a) 10 _ suits ∙ ask-no (fits (frames (circuitOf file))) 13 [] (h .stopped z)) (omega arith)
               (h .emptied z ∙ sym (left-13 (frames (circuitOf file)) a))
 
-          pub plan-yes : {t : Totals} → q ≡ A.Now t → outcome (onPaper (P.Planned t)) b ≡ planOf file a
+          pub plan-yes : {t : Totals} → q ≡ P.Planned t → outcome (onPaper (Q.Planned t)) b ≡ planOf file a
           unfolding onPaper
           plan-yes {t} z =
-              let m : firstNo (questions file a) ≡ 0 = rest ∙ ask-yes (areasSuit a) 10 _ suits ∙ ask-yes (fits allFrames (frames (circuitOf file))) 13 [] (h .fit t z) ∙ all-asked in
+              let m : firstNo (questions file a) ≡ 0 = rest ∙ ask-yes (areasSuit a) 10 _ suits ∙ ask-yes (fits (frames (circuitOf file))) 13 [] (h .fit t z) ∙ all-asked in
               sym (planned m ∙ rw (unless-none 0 (totalsOf (frames (circuitOf file))) refl, left-none (frames (circuitOf file)) a, ← h .filled t z, ← h .totals t z))

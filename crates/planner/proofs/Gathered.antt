@@ -12,7 +12,7 @@ use lib.Seq.{drop-cons}
 use borrow.Author.Tests.{le-ltb, ne-eqb}
 use Rattle.lists.proofs.Choices.{or-swap}
 use Rattle.method.specs.Times.{insert, rising, shifted, gateTimes, among}
-use Rattle.method.proofs.Rising.{Rise, Starts, rise-ext, insert-rise, insert-among, Above, among-append, rising-rise, rising-among, all-shifted-above}
+use Rattle.method.proofs.Rising.{Rise, Starts, starts-above, rise-ext, insert-rise, insert-among, Above, among-append, rising-rise, rising-among, all-shifted-above}
 use Rattle.planner.specs.Steps.{into}
 
 -- the later times of each of these nets, plus d, inserted one after the other
@@ -47,14 +47,6 @@ one-in (x ∷ xs) h = refl
 
 -- ---- one fan-in
 
-rise-above : (p q : ℕ) (ts : List ℕ) → p ≤ q → Rise q ts → Above p ts
-rise-above p q [] h r = tt
-rise-above p q (t ∷ ts) h r = (omega arith, rise-above p t ts (omega arith) (r .1))
-
-start-above : (ss : List ℕ) → Starts ss → Above 0 (drop 1 ss)
-start-above [] h = absurd h
-start-above (t ∷ ss) h = rise-above 0 t ss (omega arith) (h .1)
-
 into-zero : (d : ℕ) (ss ts : List ℕ) → Above 0 ss → into d ss (0 ∷ ts) ≡ 0 ∷ into d ss ts
 unfolding into
 into-zero d [] ts a = refl
@@ -82,12 +74,12 @@ AllStart rows = (e : ℕ) → e < length rows → Starts (getD rows e [])
 gather-zero : (d : ℕ) (rows : List (List ℕ)) (ts : List ℕ) → AllStart rows → gather d rows (0 ∷ ts) ≡ 0 ∷ gather d rows ts
 unfolding gather
 gather-zero d [] ts a = refl
-gather-zero d (ss ∷ rows) ts a = rw (into-zero d (drop 1 ss) ts (start-above ss (a 0 (omega arith)))) (gather-zero d rows (into d (drop 1 ss) ts) (λ e h. a (suc e) (omega arith)))
+gather-zero d (ss ∷ rows) ts a = rw (into-zero d (drop 1 ss) ts (starts-above ss (a 0 (omega arith)))) (gather-zero d rows (into d (drop 1 ss) ts) (λ e h. a (suc e) (omega arith)))
 
 gather-rise : (d : ℕ) (rows : List (List ℕ)) (ts : List ℕ) → AllStart rows → Rise 0 ts → Rise 0 (gather d rows ts)
 unfolding gather
 gather-rise d [] ts a r = r
-gather-rise d (ss ∷ rows) ts a r = gather-rise d rows (into d (drop 1 ss) ts) (λ e h. a (suc e) (omega arith)) (into-rise d (drop 1 ss) ts (start-above ss (a 0 (omega arith))) r)
+gather-rise d (ss ∷ rows) ts a r = gather-rise d rows (into d (drop 1 ss) ts) (λ e h. a (suc e) (omega arith)) (into-rise d (drop 1 ss) ts (starts-above ss (a 0 (omega arith))) r)
 
 shifted-start : (d : ℕ) (ss : List ℕ) → Starts ss → shifted d ss ≡ shifted d (drop 1 ss)
 shifted-start d [] h = absurd h
@@ -99,7 +91,7 @@ gather-among x d [] ts a = refl
 gather-among x d (ss ∷ rows) ts a =
     let later = flatMap (shifted d) rows in
     gather-among x d rows (into d (drop 1 ss) ts) (λ e h. a (suc e) (omega arith))
-    ∙ rw (into-among x d (drop 1 ss) ts (start-above ss (a 0 (omega arith))), among-append x (shifted d ss) later, shifted-start d ss (a 0 (omega arith)))
+    ∙ rw (into-among x d (drop 1 ss) ts (starts-above ss (a 0 (omega arith))), among-append x (shifted d ss) later, shifted-start d ss (a 0 (omega arith)))
     (or-swap (among x later) (among x (shifted d (drop 1 ss))) (among x ts) ∙ sym (or-assoc (among x (shifted d (drop 1 ss))) (among x later) (among x ts)))
 
 pub gathered : (d : ℕ) (rows : List (List ℕ)) → AllStart rows → gather d rows (0 ∷ []) ≡ gateTimes d rows

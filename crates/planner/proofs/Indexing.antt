@@ -1,45 +1,36 @@
 -- The loops over a gate's frames: an index stored a turn. Hints say where the search for a fan-in's frame may start.
 -- Assumes nothing.
-use Prim.Native.Nat.{ℕ, zero, suc, _+_, _-_, _*_, _<_, _≤_}
+use Prim.Native.Nat.{ℕ, suc, _+_, _-_, _*_, _<_, _≤_}
 use mathlib.Core.Path.{_≡_, refl, sym, ap, ap₂, _∙_}
 use mathlib.Core.Bool.{true, false≢true}
-use mathlib.Core.List.{List, [], _∷_, _++_, map, flatMap}
+use mathlib.Core.List.{List, [], _∷_, map, flatMap}
 use native.Mathlib.Omega.{arith}
-use native.Mathlib.Nat.{add-zero, add-suc, suc-mul, mul-le-mul-right}
+use native.Mathlib.Nat.{add-suc, suc-mul, mul-le-mul-right}
 use native.Mathlib.Numerals.{add-one}
 use lib.ListN.{length, getD, drop, set, replicate, length-drop, length-map, drop-of-length-le}
 use lib.Seq.{sets, drop-cons, drop-drop, getD-set-same, getD-set-other}
-use Rattle.lists.specs.Tables.{leading}
+use Rattle.lists.specs.Front.{leading}
 use Rattle.lists.proofs.Choices.{less, same, more, tri}
 use Rattle.lists.proofs.Zeros.{zeros-at}
+use Rattle.lists.proofs.Storing.{sets-append}
 use Rattle.lists.proofs.Leading.{leading-most, leading-skip}
 use Rattle.method.specs.Times.{startAndRise}
 use Rattle.method.specs.Indices.{lastFrame, faninIndex, upTo, inertialIndices}
 use Rattle.method.specs.Frames.{faninRow}
-use Rattle.method.proofs.Rising.{Rise, Starts, test-starts}
-use Rattle.method.proofs.Lasting.{leading-all, last-leading, last-mono, last-within, index-last}
+use Rattle.method.proofs.Rising.{Rise, Starts, test-starts, starts-drop}
+use Rattle.method.proofs.Lasting.{leading-all, last-leading, last-mono, index-last}
 use Rattle.circuit.specs.File.{faninAt}
 use Rattle.planner.specs.Steps.{Below, span, spans}
 use Rattle.planner.proofs.Spans.{spans-length, spans-at, spans-next}
 
 -- ---- a gate's own times rise
 
-rise-drop : (p : ℕ) (ts : List ℕ) → Rise p ts → (k : ℕ) → k < length ts → Rise (getD ts k 0) (drop (suc k) ts)
-rise-drop p [] r k h = absurd (omega arith)
-rise-drop p (t ∷ ts) r zero h = r .1
-rise-drop p (t ∷ ts) r (suc k) h = rise-drop t ts (r .1) k (omega arith)
-
-starts-drop : (ts : List ℕ) → Starts ts → (k : ℕ) → k < length ts → Rise (getD ts k 0) (drop (suc k) ts)
-starts-drop [] r k h = absurd r
-starts-drop (t ∷ ts) r zero h = r .1
-starts-drop (t ∷ ts) r (suc k) h = rise-drop t ts (r .1) k (omega arith)
-
 -- there is one
 pub own-some : (ts : List ℕ) → startAndRise ts ≡ true → 1 ≤ length ts
 own-some [] e = absurd (false≢true e)
 own-some (t ∷ ts) e = omega arith
 
--- the next of them is later
+-- the next of them is no earlier
 pub own-next : (ts : List ℕ) → startAndRise ts ≡ true → (k : ℕ) → k + 1 < length ts → getD ts k 0 ≤ getD ts (k + 1) 0
 own-next ts e k h =
     let r : Rise (getD ts k 0) (getD ts (suc k) 0 ∷ drop (suc (suc k)) ts) = rw (drop-cons ts (suc k) 0 (omega arith)) at (starts-drop ts (test-starts ts e) k (omega arith)) in
@@ -72,9 +63,6 @@ found ts from time e l {r} q =
     let part : drop from (drop 1 ts) ≡ drop (from + 1) ts = drop-drop from 1 ts ∙ ap (λ (n : ℕ). drop n ts) (let p : 1 + from ≡ from + 1 = omega arith in p) in
     let more : leading time (drop 1 ts) ≡ from + leading time (drop (from + 1) ts) = rw (← part) skip in
     omega arith
-
-pub found-low : (ts : List ℕ) (time : ℕ) → startAndRise ts ≡ true → lastFrame ts time < length ts
-found-low ts time e = last-within ts time (test-starts ts e)
 
 -- fan-in e of the list is net n, and these are its times
 module _ (file : List ℕ) (list entries : ℕ) (d t : List ℕ) (e : ℕ) (h : e < entries) {n : ℕ} (q : n ≡ faninAt file list e) {s : List ℕ} (p : s ≡ span d t n) where
@@ -120,10 +108,6 @@ module _ {ss : List (List ℕ)} {time : ℕ} {hints : List ℕ} (b : Below ss ti
       }
 
 -- ---- all frames of a gate: the rows from frame k on are still to be stored
-
-sets-append : (f : List ℕ) (i : ℕ) (xs ys : List ℕ) → sets f i (xs ++ ys) ≡ sets (sets f i xs) (i + length xs) ys
-sets-append f i [] ys = rw add-zero
-sets-append f i (x ∷ xs) ys = sets-append (set f i x) (suc i) xs ys ∙ rw (let q : suc i + length xs ≡ i + suc (length xs) = omega arith in q)
 
 -- a fan-in row is the row of last frames at t - d
 row-index : (d t : ℕ) (ss : List (List ℕ)) → ((e : ℕ) → e < length ss → Starts (getD ss e [])) → map (λ (s : List ℕ). lastFrame s (t - d)) ss ≡ faninRow d ss t

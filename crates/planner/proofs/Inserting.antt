@@ -9,7 +9,7 @@ use native.Mathlib.Omega.{arith}
 use native.Mathlib.Nat.{sub-zero}
 use native.Mathlib.Numerals.{add-one}
 use borrow.Author.Tests.{lt-ltb, le-ltb, le-leb, lt-leb, eq-eqb, ne-eqb}
-use Rattle.lists.specs.Tables.{leading}
+use Rattle.lists.specs.Front.{leading}
 use mathlib.Core.Logic.{inl, inr}
 use Rattle.lists.proofs.Choices.{order, less, same, more, tri}
 use Rattle.lists.proofs.Leading.{leading-most, leading-skip}
@@ -22,14 +22,14 @@ abbrev pub moved : List ℕ → ℕ → ℕ → List ℕ
 moved row count i = take (i + 1) row ++ (drop i (take count row) ++ drop (count + 1) row)
 
 module _ (row : List ℕ) (count : ℕ) (fits : count < length row) where
-  pub none-moved : row ≡ moved row count count
-  none-moved =
+  pub shift-none : row ≡ moved row count count
+  shift-none =
       let n : length (take count row) ≤ count = rw (length-take-le count row (omega arith)) (omega arith) in
       let e : drop count (take count row) ≡ [] = drop-of-length-le (take count row) n in
       sym (rw e (take-append-drop (count + 1) row))
 
-  one-moved : (q : ℕ) → q < count → {a : List ℕ} → a ≡ moved row count (suc q) → set a (suc q) (getD a q 0) ≡ moved row count q
-  one-moved q l {a} h =
+  shift-one : (q : ℕ) → q < count → {a : List ℕ} → a ≡ moved row count (suc q) → set a (suc q) (getD a q 0) ≡ moved row count q
+  shift-one q l {a} h =
       let rest = drop (suc q) (take count row) ++ drop (count + 1) row in
       let front : take (suc q + 1) row ≡ take (suc q) row ++ (getD row (suc q) 0 ∷ []) = rw add-one (take-suc row (suc q) 0 (omega arith)) in
       let whole : a ≡ take (suc q) row ++ (getD row (suc q) 0 ∷ rest) = h ∙ rw (front, append-assoc) in
@@ -40,9 +40,9 @@ module _ (row : List ℕ) (count : ℕ) (fits : count < length row) where
       let put : set a (suc q) (getD a q 0) ≡ take (suc q) row ++ (getD row q 0 ∷ rest) = rw (v, whole) (set-at (take (suc q) row) _ rest (getD row q 0) (suc q) n) in
       put ∙ rw (next, add-one q)
 
-  pub move : (i : ℕ) → 0 < i → i ≤ count → {a : List ℕ} → a ≡ moved row count i → set a i (getD a (i - 1) 0) ≡ moved row count (i - 1)
-  move zero l m h = absurd (omega arith)
-  move (suc q) l m h = let e : suc q - 1 ≡ q = omega arith in rw e (one-moved q (omega arith) h)
+  pub shift-on : (i : ℕ) → 0 < i → i ≤ count → {a : List ℕ} → a ≡ moved row count i → set a i (getD a (i - 1) 0) ≡ moved row count (i - 1)
+  shift-on zero l m h = absurd (omega arith)
+  shift-on (suc q) l m h = let e : suc q - 1 ≡ q = omega arith in rw e (shift-one q (omega arith) h)
 
 -- ---- a list with suc e put in: its place is behind the numbers at the front that are at most e
 
@@ -72,7 +72,7 @@ there e (x ∷ xs) h l =
     ]
 
 -- what is inserted leaves those before its place at the front
-pub place-later : (f e : ℕ) → f ≤ e → (l : List ℕ) → leading f l ≤ leading e (insert (suc f) l)
+place-later : (f e : ℕ) → f ≤ e → (l : List ℕ) → leading f l ≤ leading e (insert (suc f) l)
 unfolding leading
 place-later f e h [] = omega arith
 place-later f e h (x ∷ xs) =
@@ -99,18 +99,18 @@ module _ (row : List ℕ) (count t : ℕ) (fits : count < length row) (pos : 1 �
   t-is : t ≡ suc (t - 1)
   t-is = (let q : t ≡ (t - 1) + 1 = omega arith in q) ∙ add-one (t - 1)
 
-  pub placed : p ≤ count
-  placed = omega (arith, n, leading-most (t - 1) (take count row))
+  pub place-within : p ≤ count
+  place-within = omega (arith, n, leading-most (t - 1) (take count row))
 
-  pub kept : p < count → getD row p 0 ≡ t → Inserted row row count t count
-  kept l e =
+  pub insert-kept : p < count → getD row p 0 ≡ t → Inserted row row count t count
+  insert-kept l e =
       let same : insert t (take count row) ≡ take count row =
       ap (λ (x : ℕ). insert x (take count row)) t-is ∙ there (t - 1) (take count row) (rw (← h, getD-take count row p 0 l) (e ∙ t-is)) (rw (← h, n) l) in
       record { count-is = rw same (sym n); row-is = rw same (sym (take-append-drop count row)); most = omega arith }
 
-  pub put : (p < count → getD row p 0 ≡ t → ⊥) → {a : List ℕ} → a ≡ moved row count p → Inserted row (set a p t) count t (count + 1)
-  put other {a} m =
-      let l : p ≤ count = placed in
+  pub insert-put : (p < count → getD row p 0 ≡ t → ⊥) → {a : List ℕ} → a ≡ moved row count p → Inserted row (set a p t) count t (count + 1)
+  insert-put other {a} m =
+      let l : p ≤ count = place-within in
       let rest = drop p (take count row) ++ drop (count + 1) row in
       let front : take p (take count row) ≡ take p row = take-take p count row l in
       let size : length (take p row) ≡ p = length-take-le p row (omega arith) in

@@ -13,9 +13,9 @@ use Rattle.lists.proofs.ByNumber.{getD-any}
 use Rattle.method.proofs.Rising.{Starts, test-starts}
 use Rattle.circuit.specs.declared.GateRecord.{GateRecord}
 use Rattle.circuit.specs.File.{faninAt}
-use Rattle.circuit.specs.Limits.{RecordWithin}
-use Rattle.planner.specs.Limits.{mostFrames}
-use Rattle.planner.specs.Steps.{Ready, span, spans, mostTime}
+use Rattle.circuit.specs.Limits.{mostTime}
+use Rattle.planner.specs.Limits.{mostNetFrames}
+use Rattle.planner.specs.Steps.{Fed, span, spans}
 
 -- ---- one net
 
@@ -26,26 +26,11 @@ span-read d t n {first} {end} p q =
     let m : end - first ≡ getD d (2 * n + 1) 0 = omega arith in
     rw (m, p)
 
-module _ {d t : List ℕ} {net : ℕ} (r : Ready d t net) (n : ℕ) (h : n < net) where
-  pub span-starts : Starts (span d t n)
-  span-starts = test-starts (span d t n) (r .starts n h)
-
-  pub span-length : length (span d t n) ≡ getD d (2 * n + 1) 0
-  unfolding span
-  span-length = length-take-le (getD d (2 * n + 1) 0) (drop (getD d (2 * n) 0) t) (rw length-drop (omega (arith, r .inside n h)))
-
-  pub span-few : length (span d t n) ≤ mostFrames
-  span-few = rw span-length (r .few n h)
-
-  pub span-early : (i : ℕ) → getD (span d t n) i 0 ≤ mostTime
-  unfolding span
-  span-early i = take-early (getD d (2 * n + 1) 0) (drop (getD d (2 * n) 0) t) (λ k. rw (getD-drop (getD d (2 * n) 0) t k 0) (r .early (getD d (2 * n) 0 + k))) i
-    where
-      take-early : (m : ℕ) (l : List ℕ) → ((k : ℕ) → getD l k 0 ≤ mostTime) → (k : ℕ) → getD (take m l) k 0 ≤ mostTime
-      take-early zero l e k = omega arith
-      take-early (suc m) [] e k = omega arith
-      take-early (suc m) (x ∷ xs) e zero = e 0
-      take-early (suc m) (x ∷ xs) e (suc k) = take-early m xs (λ i. e (suc i)) k
+take-early : (b m : ℕ) (l : List ℕ) → ((k : ℕ) → getD l k 0 ≤ b) → (k : ℕ) → getD (take m l) k 0 ≤ b
+take-early b zero l e k = omega arith
+take-early b (suc m) [] e k = omega arith
+take-early b (suc m) (x ∷ xs) e zero = e 0
+take-early b (suc m) (x ∷ xs) e (suc k) = take-early b m xs (λ i. e (suc i)) k
 
 -- ---- the fan-ins of a gate
 
@@ -67,8 +52,23 @@ module _ (file : List ℕ) (list entries : ℕ) (d t : List ℕ) where
   pub spans-next : (e : ℕ) → e < entries → {n : ℕ} → n ≡ faninAt file list e → drop e (spans file list entries d t) ≡ span d t n ∷ drop (e + 1) (spans file list entries d t)
   spans-next e h q = drop-cons (spans file list entries d t) e [] (rw spans-length h) ∙ rw (spans-at e h, q, add-one e)
 
-pub spans-start : (file : List ℕ) (g : GateRecord) (d t : List ℕ) {net : ℕ} → RecordWithin file net g → Ready d t net
-    → (e : ℕ) → e < length (spans file (g .list) (g .entries) d t) → Starts (getD (spans file (g .list) (g .entries) d t) e [])
-spans-start file g d t w r e l =
+pub spans-start : {file : List ℕ} {g : GateRecord} {d t : List ℕ} → Fed file g d t → (e : ℕ) → e < length (spans file (g .list) (g .entries) d t) → Starts (getD (spans file (g .list) (g .entries) d t) e [])
+spans-start {file} {g} {d} {t} f e l =
     let h : e < g .entries = rw (spans-length file (g .list) (g .entries) d t) at l in
-    rw (spans-at file (g .list) (g .entries) d t e h) (span-starts r (faninAt file (g .list) e) (w .below e h))
+    rw (spans-at file (g .list) (g .entries) d t e h) (test-starts (span d t (faninAt file (g .list) e)) (f .starts e h))
+
+-- fan-in e is net n
+module _ {file : List ℕ} {g : GateRecord} {d t : List ℕ} (f : Fed file g d t) (e : ℕ) (h : e < g .entries) {n : ℕ} (q : n ≡ faninAt file (g .list) e) where
+  -- what is asked where its times are read
+  pub fanin-there : (2 * n + 1 < length d) × (getD d (2 * n) 0 + getD d (2 * n + 1) 0 ≤ length t)
+  fanin-there = (omega (arith, f .pair e h), rw q (f .inside e h))
+
+  pub fanin-few : length (span d t n) ≤ mostNetFrames
+  unfolding span
+  fanin-few =
+      rw (q, length-take-le (getD d (2 * faninAt file (g .list) e + 1) 0) (drop (getD d (2 * faninAt file (g .list) e) 0) t) (rw length-drop (omega (arith, f .inside e h)))) (f .few e h)
+
+  pub fanin-early : (i : ℕ) → getD (span d t n) i 0 ≤ mostTime
+  unfolding span
+  fanin-early i =
+      take-early mostTime (getD d (2 * n + 1) 0) (drop (getD d (2 * n) 0) t) (λ k. rw (getD-drop (getD d (2 * n) 0) t k 0) (f .early (getD d (2 * n) 0 + k))) i

@@ -10,19 +10,18 @@ use Rattle.lists.specs.Tables.{tabulateFrom}
 use Rattle.lists.specs.Areas.{padded}
 use Rattle.lists.proofs.Padding.{pad-cleared}
 use Rattle.method.specs.Frames.{inputFrames}
-use Rattle.circuit.specs.File.{circuitOf}
+use Rattle.circuit.specs.File.{inputsOf, circuitOf}
 use Rattle.circuit.specs.Limits.{mostInputs}
 use Rattle.planner.specs.declared.Totals.{Totals}
 use Rattle.planner.specs.Areas.{Areas, areas, allCleared}
-use Rattle.planner.specs.Layout.{allTimes, allInertial, allFanins, pairs}
+use Rattle.planner.specs.Layout.{allTimes, allInertial, allFanins}
 use Rattle.planner.specs.Questions.{fits}
 use Rattle.planner.specs.Plan.{latest, totalsOf}
-use Rattle.planner.specs.Steps.{framesOf, Room, Given, Inputs, Going}
-use Rattle.planner.proofs.Laying.{inputsOnly, inputs-count, inputs-frames}
+use Rattle.planner.specs.Steps.{framesOf, inputsOnly, Room, Given, Inputs, Going}
+use Rattle.planner.proofs.Laying.{inputs-count, inputs-frames, no-pairs, no-times, inputs-laid}
 use Rattle.planner.proofs.Prefix.{frames-none}
 use Rattle.planner.proofs.Fitting.{fits-inputs}
 use Rattle.planner.proofs.Accepted.{circuit-inputs, few}
-use Rattle.planner.proofs.Stepping.{laid-is}
 
 -- ---- what the inputs are
 
@@ -45,48 +44,47 @@ inputs-latest : (n : ℕ) → 1 ≤ n → latest (allTimes (inputsOnly n)) ≡ 1
 inputs-latest zero h = absurd (omega arith)
 inputs-latest (suc n) h = latest-from n 0
 
-totals-inputs : (n : ℕ) → 1 ≤ n → _≡_ {A = Totals} (record { frames = 2 * n; fanins = 0; last = record { 0 = 1 } }) (totalsOf (inputsOnly n))
+pub inputs-totals : (n : ℕ) → 1 ≤ n → _≡_ {A = Totals} (record { frames = 2 * n; fanins = 0; last = record { 0 = 1 } }) (totalsOf (inputsOnly n))
 unfolding totalsOf
-totals-inputs n h = rw (inputs-frames n, fanins-from n 0, inputs-latest n h)
+inputs-totals n h = rw (inputs-frames n, fanins-from n 0, inputs-latest n h)
 
 -- ---- of a file
 
-module _ (file : List ℕ) {inputs gates limit : ℕ} {a : Areas} (given : Given file inputs gates limit a) where
-  nets-are : framesOf file 0 ≡ inputsOnly inputs
-  nets-are = frames-none (circuitOf file) ∙ rw (circuit-inputs file (given .read))
+module _ (file : List ℕ) {a : Areas} (given : Given file a) where
+  nets-are : framesOf file 0 ≡ inputsOnly (inputsOf file)
+  nets-are = frames-none (circuitOf file) ∙ rw (circuit-inputs file)
 
-  fit : fits limit (framesOf file 0) ≡ true
-  fit = rw nets-are (fits-inputs limit inputs (given .start))
+  fit : fits (framesOf file 0) ≡ true
+  fit = rw nets-are (fits-inputs (inputsOf file) (omega (arith, few file (given .read))))
 
-  room : Room (inputsOnly inputs) a
+  room : Room (inputsOnly (inputsOf file)) a
   room = rw nets-are at (given .room 0 (omega arith) fit)
 
-  pub inputs-room : (inputs ≤ mostInputs) × (2 * inputs ≤ length (a .directory)) × (2 * inputs ≤ length (a .times))
-  inputs-room = (few file (given .read) .1, omega (arith, room .directory, inputs-count inputs), omega (arith, room .times, inputs-frames inputs))
+  pub inputs-room : (1 ≤ inputsOf file) × (inputsOf file ≤ mostInputs) × (2 * inputsOf file ≤ length (a .directory)) × (2 * inputsOf file ≤ length (a .times))
+  inputs-room =
+      let n = few file (given .read) in
+      (n .0, n .1, omega (arith, room .directory, inputs-count (inputsOf file)), omega (arith, room .times, inputs-frames (inputsOf file)))
 
   -- the areas were cleared
   module _ {a′ : Areas} (cleared : a′ ≡ allCleared a) where
     pub inputs-none : Inputs (a′ .directory) (a′ .times) 0
-    unfolding allCleared pairs flatMap tabulateFrom
+    unfolding allCleared
     inputs-none =
         record {
-          pairs-are = pad-cleared (a .directory) 0 (ap (λ (x : Areas). x .directory) cleared) (omega arith);
-          times-are = pad-cleared (a .times) 0 (ap (λ (x : Areas). x .times) cleared) (omega arith);
+          pairs-are = rw no-pairs (pad-cleared (a .directory) 0 (ap (λ (x : Areas). x .directory) cleared) (omega arith));
+          times-are = rw no-times (pad-cleared (a .times) 0 (ap (λ (x : Areas). x .times) cleared) (omega arith));
         }
 
-    inertial-0 : a′ .inertial ≡ padded (length (a′ .inertial)) (allInertial (inputsOnly inputs))
+    inertial-0 : a′ .inertial ≡ padded (length (a′ .inertial)) (allInertial (inputsOnly (inputsOf file)))
     unfolding allCleared
     inertial-0 =
-        rw (inertial-from inputs 0) (pad-cleared (a .inertial) (2 * inputs) (ap (λ (x : Areas). x .inertial) cleared) (omega (arith, room .inertial, inputs-frames inputs)))
+        rw (inertial-from (inputsOf file) 0) (pad-cleared (a .inertial) (2 * inputsOf file) (ap (λ (x : Areas). x .inertial) cleared) (omega (arith, room .inertial, inputs-frames (inputsOf file))))
 
-    fanins-0 : a′ .fanins ≡ padded (length (a′ .fanins)) (allFanins (inputsOnly inputs))
+    fanins-0 : a′ .fanins ≡ padded (length (a′ .fanins)) (allFanins (inputsOnly (inputsOf file)))
     unfolding allCleared
-    fanins-0 = rw (fanins-from inputs 0) (pad-cleared (a .fanins) 0 (ap (λ (x : Areas). x .fanins) cleared) (omega arith))
+    fanins-0 = rw (fanins-from (inputsOf file) 0) (pad-cleared (a .fanins) 0 (ap (λ (x : Areas). x .fanins) cleared) (omega arith))
 
-    pub going-none : {d t : List ℕ} → Inputs d t inputs → Going file 0 limit (areas d t (a′ .inertial) (a′ .fanins)) (record { frames = 2 * inputs; fanins = 0; last = record { 0 = 1 } })
-    going-none p =
-        record {
-          is = rw nets-are (laid-is (inputsOnly inputs) (p .pairs-are) (p .times-are) inertial-0 fanins-0);
-          totals = rw nets-are (totals-inputs inputs (few file (given .read) .0));
-          fit = fit;
-        }
+    pub going-none : {inputs : ℕ} → inputs ≡ inputsOf file → {d t : List ℕ} {start : Totals} → Inputs d t inputs → start ≡ totalsOf (inputsOnly inputs)
+        → Going file 0 (areas d t (a′ .inertial) (a′ .fanins)) start
+    going-none e p q =
+        record { is = rw nets-are (inputs-laid (inputsOf file) (rw e at p) inertial-0 fanins-0); totals = rw nets-are (q ∙ rw e); fit = fit }

@@ -9,21 +9,25 @@ use Rattle.lists.specs.Tables.{every}
 use Rattle.method.specs.Frames.{Frames, frames}
 use Rattle.circuit.specs.File.{circuitOf}
 use Rattle.circuit.specs.Questions as reader
-use Rattle.planner.specs.Limits.{mostFrames, allFrames, directoryLength, frameLength, faninLength}
+use Rattle.planner.specs.Limits.{mostNetFrames, mostTotalFrames, directoryLength, timesLength, faninsLength}
 use Rattle.planner.specs.Areas.{Areas}
 use Rattle.planner.specs.Layout.{allTimes}
 
--- 10: Are the areas of exactly these lengths?
+-- 10: Are the areas of exactly these lengths: directory 320, times 2,048, inertial 2,048, fan-in 16,384?
 unfoldable pub areasSuit : Areas → Bool
 areasSuit a =
     eqb (length (a .directory)) directoryLength
-    && (eqb (length (a .times)) frameLength
-    && (eqb (length (a .inertial)) frameLength && eqb (length (a .fanins)) faninLength))
+    && (eqb (length (a .times)) timesLength
+    && (eqb (length (a .inertial)) timesLength && eqb (length (a .fanins)) faninsLength))
 
--- 13: Has every net at most 64 frames, and all nets together at most `limit`?
-unfoldable pub fits : ℕ → List Frames → Bool
-fits limit fs = every (map (λ (f : Frames). leb (length (f .times)) mostFrames) fs) && leb (length (allTimes fs)) limit
+-- 13: Has every net at most 64 frames, and all nets together at most 2,048?
+unfoldable pub fits : List Frames → Bool
+fits fs =
+    every (map (λ (f : Frames). leb (length (f .times)) mostNetFrames) fs) && leb (length (allTimes fs)) mostTotalFrames
+
+-- Plan's own questions
+abbrev pub ownQuestions : List ℕ → Areas → List Question
+ownQuestions file a = (areasSuit a orElse 10) ∷ (fits (frames (circuitOf file)) orElse 13) ∷ []
 
 unfoldable pub questions : List ℕ → Areas → List Question
-questions file a =
-    reader.questions file ++ ((areasSuit a orElse 10) ∷ (fits allFrames (frames (circuitOf file)) orElse 13) ∷ [])
+questions file a = reader.questions file ++ ownQuestions file a

@@ -5,10 +5,11 @@ ghost use Prim.Native.Nat.{_+_, _<_, max};
 ghost use lib.ListN.{length};
 ghost use Rattle.method.specs.Indices.{inertialIndices};
 ghost use Rattle.method.specs.Frames.{faninRow};
-ghost use Rattle.circuit.specs.Limits.{RecordWithin};
+ghost use Rattle.circuit.specs.File.{inputsOf, gatesOf};
 ghost use Rattle.planner.specs.Areas.{areas};
-ghost use Rattle.planner.specs.Steps.{Given, Going, Own, Place, Reached, Ready, Stored, spans};
-use crate::Added;
+ghost use Rattle.planner.specs.Steps.{Fed, Given, Going, Own, Place, Reached, Stored, spans};
+use crate::MOST_FANINS;
+use crate::Progress;
 use crate::Totals;
 use crate::indices::index_rows;
 use crate::indices::inertial_row;
@@ -17,81 +18,77 @@ use circuit::GateRecord;
 use method::Net;
 use method::Time;
 
-// A net has at most so many frames.
-const NET_FRAMES: usize = 64;
+const MOST_NET_FRAMES: usize = 64;
 
-// A row long enough for the times of any gate: 8 fan-ins of 64 frames each.
-const ROW_LENGTH: usize = 520;
+const MOST_TOTAL_FRAMES: u16 = 2048;
+
+// Room for the times of any gate, from those of its fan-ins.
+const GATHERED_LENGTH: usize = MOST_FANINS * MOST_NET_FRAMES + 2;
 
 // Plans the gates, until one shows that there are too many frames.
 pub fn add_gates(
     file: &[u8],
     inputs: u16,
     gates: u16,
-    limit: u16,
     directory: &mut [u16],
     times: &mut [u16],
     inertial: &mut [u16],
     fanins: &mut [u16],
     start: Totals,
-) -> Added
-    requires { ⌜ Given (now file) inputs gates limit (areas (now directory) (now times) (now inertial) (now fanins)) ⌝ }
-    requires { ⌜ Going (now file) 0 limit (areas (now directory) (now times) (now inertial) (now fanins)) start ⌝ }
-    ensures { λ r. ⌜ Reached (now (file .entry)) gates limit (areas (now (directory .exit)) (now (times .exit)) (now (inertial .exit)) (now (fanins .exit))) r ⌝ }
+) -> Progress
+    requires { ⌜ Given (now file) (areas (now directory) (now times) (now inertial) (now fanins)) × (inputs ≡ inputsOf (now file)) × (gates ≡ gatesOf (now file)) ⌝ }
+    requires { ⌜ Going (now file) 0 (areas (now directory) (now times) (now inertial) (now fanins)) start ⌝ }
+    ensures { λ r. ⌜ Reached (now (file .entry)) gates (areas (now (directory .exit)) (now (times .exit)) (now (inertial .exit)) (now (fanins .exit))) r ⌝ }
 {
     let mut totals = start;
     let mut j: u16 = 0;
     while j < gates {
-        let Added::Now(t) = add_gate(
+        let net = Net(inputs + j);
+        let Progress::Planned(t) = add_gate(
             file,
-            inputs,
-            gates,
             j,
-            limit,
+            net,
             directory,
             times,
             inertial,
             fanins,
             totals,
         ) else {
-            return Added::TooMany;
+            return Progress::TooMany;
         };
         totals = t;
         j += 1;
     }
-    Added::Now(totals)
+    Progress::Planned(totals)
 }
 
-// Plans gate j after the inputs and the gates before it, unless there are too many frames.
+// Plans gate j, which drives `net`, after the nets before it, unless there are too many frames.
 fn add_gate(
     file: &[u8],
-    inputs: u16,
-    gates: u16,
     j: u16,
-    limit: u16,
+    net: Net,
     directory: &mut [u16],
     times: &mut [u16],
     inertial: &mut [u16],
     fanins: &mut [u16],
     totals: Totals,
-) -> Added
-    requires { ⌜ Given (now file) inputs gates limit (areas (now directory) (now times) (now inertial) (now fanins)) × (j < gates) ⌝ }
-    requires { ⌜ Going (now file) j limit (areas (now directory) (now times) (now inertial) (now fanins)) totals ⌝ }
-    ensures { λ r. ⌜ Reached (now (file .entry)) (j + 1) limit (areas (now (directory .exit)) (now (times .exit)) (now (inertial .exit)) (now (fanins .exit))) r ⌝ }
+) -> Progress
+    requires { ⌜ Given (now file) (areas (now directory) (now times) (now inertial) (now fanins)) × (j < gatesOf (now file)) × (net .0 ≡ inputsOf (now file) + j) ⌝ }
+    requires { ⌜ Going (now file) j (areas (now directory) (now times) (now inertial) (now fanins)) totals ⌝ }
+    ensures { λ r. ⌜ Reached (now (file .entry)) (j + 1) (areas (now (directory .exit)) (now (times .exit)) (now (inertial .exit)) (now (fanins .exit))) r ⌝ }
 {
     let gate = circuit::gate_at(file, j);
-    let net = Net(inputs + j);
     let first = totals.frames;
-    let mut row = [0u16; ROW_LENGTH];
-    let count = gate_times(file, gate, net, directory, times, &mut row);
-    if NET_FRAMES < count {
-        return Added::TooMany;
+    let mut gathered = [0u16; GATHERED_LENGTH];
+    let count = gate_times(file, gate, directory, times, &mut gathered);
+    if MOST_NET_FRAMES < count {
+        return Progress::TooMany;
     }
-    if ((limit - first) as usize) < count {
-        return Added::TooMany;
+    if ((MOST_TOTAL_FRAMES - first) as usize) < count {
+        return Progress::TooMany;
     }
-    let own = &row[0..count];
-    Added::Now(store_gate(
+    let own = &gathered[0..count];
+    Progress::Planned(store_gate(
         file,
         gate,
         net,
@@ -116,8 +113,7 @@ fn store_gate(
     fanins: &mut [u16],
     totals: Totals,
 ) -> Totals
-    requires { ⌜ RecordWithin (now file) (net .0) gate ⌝ }
-    requires { ⌜ Ready (now directory) (now times) (net .0) ⌝ }
+    requires { ⌜ Fed (now file) gate (now directory) (now times) ⌝ }
     requires { ⌜ Own (now own) ⌝ }
     requires { ⌜ Place (areas (now directory) (now times) (now inertial) (now fanins)) (net .0) totals (length (now own)) (gate .entries) ⌝ }
     ensures { λ r. ⌜ Stored (areas (now (directory .entry)) (now (times .entry)) (now (inertial .entry)) (now (fanins .entry))) (areas (now (directory .exit)) (now (times .exit)) (now (inertial .exit)) (now (fanins .exit))) (net .0) totals r (gate .entries) (now (own .entry)) (inertialIndices (gate .inertial) (now (own .entry))) (flatMap (faninRow (gate .delay) (spans (now (file .entry)) (gate .list) (gate .entries) (now (directory .entry)) (now (times .entry)))) (now (own .entry))) ⌝ }
@@ -127,7 +123,7 @@ fn store_gate(
     let at = totals.fanins;
     let last = totals.last;
     inertial_row(own, gate.inertial, inertial, first as usize);
-    index_rows(file, gate, net, directory, times, own, fanins, at as usize);
+    index_rows(file, gate, directory, times, own, fanins, at as usize);
     lists::store(times, first as usize, own);
     let pair = 2 * (net.0 as usize);
     directory[pair] = first;

@@ -2,23 +2,23 @@
 ghost use mathlib.Core.Path.{_≡_};
 ghost use mathlib.Core.Bool.{true};
 ghost use mathlib.Core.List.{flatMap};
-ghost use Prim.Native.Nat.{_+_, _-_, _*_, _≤_, _<_};
+ghost use Prim.Native.Nat.{_+_, _-_, _*_, _≤_};
 ghost use lib.ListN.{length};
 ghost use lib.Seq.{sets};
 ghost use Rattle.method.specs.Kinds.{mostFanins};
 ghost use Rattle.method.specs.Times.{startAndRise};
 ghost use Rattle.method.specs.Indices.{lastFrame, inertialIndices};
 ghost use Rattle.method.specs.Frames.{faninRow};
-ghost use Rattle.circuit.specs.Limits.{mostDelay, RecordWithin};
-ghost use Rattle.planner.specs.Limits.{mostFrames};
-ghost use Rattle.planner.specs.Steps.{Below, Own, Ready, Row, spans};
+ghost use Rattle.circuit.specs.Limits.{mostDelay};
+ghost use Rattle.planner.specs.Limits.{mostNetFrames};
+ghost use Rattle.planner.specs.Steps.{Below, Fed, Own, Row, spans};
+use crate::MOST_FANINS;
 use crate::times::times_of;
 use circuit::GateRecord;
 use method::Frame;
-use method::Net;
 use method::Time;
 
-// Writes the inertial index of each of the times, from `first` on; reach is the inertial delay.
+// Writes the inertial index of each of a gate's own times, from `first` on; `reach` is the inertial delay.
 pub fn inertial_row(own: &[u16], reach: u16, inertial: &mut [u16], first: usize)
     requires { ⌜ Own (now own) ⌝ }
     requires { ⌜ (reach ≤ mostDelay) × (first + length (now own) ≤ length (now inertial)) ⌝ }
@@ -36,48 +36,35 @@ pub fn inertial_row(own: &[u16], reach: u16, inertial: &mut [u16], first: usize)
 pub fn index_rows(
     file: &[u8],
     gate: GateRecord,
-    net: Net,
     directory: &[u16],
     times: &[u16],
     own: &[u16],
     fanins: &mut [u16],
     first: usize,
 )
-    requires { ⌜ RecordWithin (now file) (net .0) gate ⌝ }
-    requires { ⌜ Ready (now directory) (now times) (net .0) ⌝ }
+    requires { ⌜ Fed (now file) gate (now directory) (now times) ⌝ }
     requires { ⌜ Own (now own) ⌝ }
     requires { ⌜ first + length (now own) * gate .entries ≤ length (now fanins) ⌝ }
     ensures { λ _. ⌜ now (fanins .exit) ≡ sets (now (fanins .entry)) first (flatMap (faninRow (gate .delay) (spans (now (file .entry)) (gate .list) (gate .entries) (now (directory .entry)) (now (times .entry)))) (now (own .entry))) ⌝ }
 {
     let delay = gate.delay;
     let entries = gate.entries;
-    let mut hints = [0u16; 8];
+    let mut hints = [0u16; MOST_FANINS];
     let mut at = first;
     let mut k = 0;
     while k < own.len() {
         let time = earlier(Time(own[k]), delay);
-        index_row(
-            file,
-            gate,
-            net,
-            directory,
-            times,
-            time,
-            &mut hints,
-            fanins,
-            at,
-        );
+        index_row(file, gate, directory, times, time, &mut hints, fanins, at);
         at += entries as usize;
         k += 1;
     }
 }
 
-// Writes for each fan-in its last frame not later than the time, from `at` on. The hints are at most these frames, and
-// are these frames afterwards.
+// Writes for each fan-in its last frame not later than the time, from `at` on. The search for each starts at its hint, a
+// frame that is not later, and leaves the frame found as the next hint.
 fn index_row(
     file: &[u8],
     gate: GateRecord,
-    net: Net,
     directory: &[u16],
     times: &[u16],
     time: Time,
@@ -85,8 +72,7 @@ fn index_row(
     fanins: &mut [u16],
     at: usize,
 )
-    requires { ⌜ RecordWithin (now file) (net .0) gate ⌝ }
-    requires { ⌜ Ready (now directory) (now times) (net .0) ⌝ }
+    requires { ⌜ Fed (now file) gate (now directory) (now times) ⌝ }
     requires { ⌜ (at + gate .entries ≤ length (now fanins)) × (mostFanins ≤ length (now hints)) × Below (spans (now file) (gate .list) (gate .entries) (now directory) (now times)) (time .0) (now hints) ⌝ }
     ensures { λ _. ⌜ Row (spans (now (file .entry)) (gate .list) (gate .entries) (now (directory .entry)) (now (times .entry))) (time .0) (now (hints .exit)) at (now (fanins .entry)) (now (fanins .exit)) ⌝ }
 {
@@ -103,16 +89,16 @@ fn index_row(
     }
 }
 
-// The last frame not later than the time; it is sought from a frame on that is not later.
+// The last frame not later than the time; it is sought from `from` on, which is not later either.
 fn last_frame(times: &[u16], from: Frame, time: Time) -> Frame
-    requires { ⌜ (startAndRise (now times) ≡ true) × (length (now times) ≤ mostFrames) × (from .0 ≤ lastFrame (now times) (time .0)) ⌝ }
+    requires { ⌜ (startAndRise (now times) ≡ true) × (length (now times) ≤ mostNetFrames) × (from .0 ≤ lastFrame (now times) (time .0)) ⌝ }
     ensures { λ r. ⌜ r .0 ≡ lastFrame (now (times .entry)) (time .0) ⌝ }
 {
     let later = lists::first_above(times, from.0 as usize + 1, time.0);
     Frame((later - 1) as u16)
 }
 
-// The time so much earlier, 0 at the least.
+// The time `delay` earlier, or 0.
 fn earlier(time: Time, delay: u16) -> Time
     ensures { λ r. ⌜ r .0 ≡ time .0 - delay ⌝ }
 {

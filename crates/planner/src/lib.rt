@@ -2,11 +2,12 @@
 ghost use mathlib.Core.Path.{_≡_};
 ghost use Prim.Native.Nat.{_*_, _≤_};
 ghost use lib.ListN.{length};
+ghost use Rattle.circuit.specs.File.{inputsOf, gatesOf};
 ghost use Rattle.circuit.specs.Limits.{mostInputs};
 ghost use Rattle.planner.specs.Areas.{areas, allCleared};
 ghost use Rattle.planner.specs.Questions.{areasSuit};
-ghost use Rattle.planner.specs.Plan.{outcome, onPaper, planOf};
-ghost use Rattle.planner.specs.Steps.{Given, Inputs, Filled};
+ghost use Rattle.planner.specs.Plan.{outcome, onPaper, planOf, totalsOf};
+ghost use Rattle.planner.specs.Steps.{Given, Inputs, Filled, inputsOnly};
 
 mod gates;
 mod indices;
@@ -16,15 +17,15 @@ use circuit::Reading;
 use gates::add_gates;
 use method::Time;
 
-// All nets together have at most so many frames.
-const ALL_FRAMES: u16 = 2048;
-
 const DIRECTORY_LENGTH: usize = 320;
 
 // The length of the times, and of the inertial indices.
-const FRAME_LENGTH: usize = 2048;
+const TIMES_LENGTH: usize = 2048;
 
-const FANIN_LENGTH: usize = 16384;
+const FANINS_LENGTH: usize = 16384;
+
+// A gate has at most this many fan-in entries.
+const MOST_FANINS: usize = 8;
 
 // How many frames and how many fan-in entries there are, and the last potential time.
 pub struct Totals {
@@ -39,9 +40,9 @@ pub enum Planning {
     Refused(u8),
 }
 
-// The totals so far, or that there are too many frames.
-enum Added {
-    Now(Totals),
+// How far planning has come: the totals so far, or that there are too many frames.
+enum Progress {
+    Planned(Totals),
     TooMany,
 }
 
@@ -61,18 +62,9 @@ pub fn plan(
             if !areas_suit(directory, times, inertial, fanins) {
                 return Planning::Refused(10);
             }
-            match fill(
-                file,
-                inputs,
-                gates,
-                ALL_FRAMES,
-                directory,
-                times,
-                inertial,
-                fanins,
-            ) {
-                Added::TooMany => Planning::Refused(13),
-                Added::Now(t) => Planning::Planned(t),
+            match fill(file, inputs, gates, directory, times, inertial, fanins) {
+                Progress::TooMany => Planning::Refused(13),
+                Progress::Planned(t) => Planning::Planned(t),
             }
         }
     }
@@ -85,41 +77,35 @@ fn areas_suit(directory: &[u16], times: &[u16], inertial: &[u16], fanins: &[u16]
     if directory.len() != DIRECTORY_LENGTH {
         return false;
     }
-    if times.len() != FRAME_LENGTH {
+    if times.len() != TIMES_LENGTH {
         return false;
     }
-    if inertial.len() != FRAME_LENGTH {
+    if inertial.len() != TIMES_LENGTH {
         return false;
     }
-    fanins.len() == FANIN_LENGTH
+    fanins.len() == FANINS_LENGTH
 }
 
-// Fills the areas with the frames of all nets; if there are too many frames, with zeros.
+// Fills the areas with the frames of all nets; if there are too many frames, with zeros. They are cleared first, since what
+// is behind the last frame has to be 0 and a gate is stored behind those before it.
 fn fill(
     file: &[u8],
     inputs: u16,
     gates: u16,
-    limit: u16,
     directory: &mut [u16],
     times: &mut [u16],
     inertial: &mut [u16],
     fanins: &mut [u16],
-) -> Added
-    requires { ⌜ Given (now file) inputs gates limit (areas (now directory) (now times) (now inertial) (now fanins)) ⌝ }
-    ensures { λ r. ⌜ Filled (now (file .entry)) limit (areas (now (directory .entry)) (now (times .entry)) (now (inertial .entry)) (now (fanins .entry))) (areas (now (directory .exit)) (now (times .exit)) (now (inertial .exit)) (now (fanins .exit))) r ⌝ }
+) -> Progress
+    requires { ⌜ Given (now file) (areas (now directory) (now times) (now inertial) (now fanins)) × (inputs ≡ inputsOf (now file)) × (gates ≡ gatesOf (now file)) ⌝ }
+    ensures { λ r. ⌜ Filled (now (file .entry)) (areas (now (directory .entry)) (now (times .entry)) (now (inertial .entry)) (now (fanins .entry))) (areas (now (directory .exit)) (now (times .exit)) (now (inertial .exit)) (now (fanins .exit))) r ⌝ }
 {
     clear_all(directory, times, inertial, fanins);
-    add_inputs(directory, times, inputs);
-    let start = Totals {
-        frames: 2 * inputs,
-        fanins: 0,
-        last: Time(1),
-    };
-    let Added::Now(totals) = add_gates(
+    let start = add_inputs(directory, times, inputs);
+    let Progress::Planned(totals) = add_gates(
         file,
         inputs,
         gates,
-        limit,
         directory,
         times,
         inertial,
@@ -127,9 +113,9 @@ fn fill(
         start,
     ) else {
         clear_all(directory, times, inertial, fanins);
-        return Added::TooMany;
+        return Progress::TooMany;
     };
-    Added::Now(totals)
+    Progress::Planned(totals)
 }
 
 fn clear_all(directory: &mut [u16], times: &mut [u16], inertial: &mut [u16], fanins: &mut [u16])
@@ -141,11 +127,11 @@ fn clear_all(directory: &mut [u16], times: &mut [u16], inertial: &mut [u16], fan
     lists::clear(fanins);
 }
 
-// Writes the pairs and the times of the inputs into areas of zeros; their inertial indices are zeros, and fan-in rows
-// they have none.
-fn add_inputs(directory: &mut [u16], times: &mut [u16], inputs: u16)
-    requires { ⌜ (inputs ≤ mostInputs) × (2 * inputs ≤ length (now directory)) × (2 * inputs ≤ length (now times)) × Inputs (now directory) (now times) 0 ⌝ }
-    ensures { λ _. ⌜ Inputs (now (directory .exit)) (now (times .exit)) inputs ⌝ }
+// Writes the pairs and the times of the inputs into areas of zeros, and answers their totals. Their inertial indices are 0,
+// and they have no fan-in rows.
+fn add_inputs(directory: &mut [u16], times: &mut [u16], inputs: u16) -> Totals
+    requires { ⌜ (1 ≤ inputs) × (inputs ≤ mostInputs) × (2 * inputs ≤ length (now directory)) × (2 * inputs ≤ length (now times)) × Inputs (now directory) (now times) 0 ⌝ }
+    ensures { λ r. ⌜ Inputs (now (directory .exit)) (now (times .exit)) inputs × (r ≡ totalsOf (inputsOnly inputs)) ⌝ }
 {
     let mut n: u16 = 0;
     while n < inputs {
@@ -155,5 +141,10 @@ fn add_inputs(directory: &mut [u16], times: &mut [u16], inputs: u16)
         times[at] = 0;
         times[at + 1] = 1;
         n += 1;
+    }
+    Totals {
+        frames: 2 * inputs,
+        fanins: 0,
+        last: Time(1),
     }
 }

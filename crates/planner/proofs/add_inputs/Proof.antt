@@ -6,6 +6,7 @@ use lib.ListN.{length, length-set}
 use native.Mathlib.Omega.{arith}
 use Rattle.planner.specs.Steps.{Inputs}
 use Rattle.planner.proofs.Laying.{inputs-on}
+use Rattle.planner.proofs.Starting.{inputs-totals}
 use borrow.Author.Needs.{needs}
 use Rattle.planner.proofs.add_inputs.Statement.{statement}
 use Rattle.planner.proofs.add_inputs.Tie as tie
@@ -17,7 +18,7 @@ abbrev μ-loop : tie.MeasureT-loop
 μ-loop directory₀ times₀ inputs n₀ directory times n = inputs - n
 
 loop-holds : tie.Need-loop-holds Inv-loop μ-loop
-loop-holds c = (omega arith, refl, refl, c .pre .3)
+loop-holds c = (omega arith, refl, refl, c .pre .4)
 
 cast-at : tie.Need-cast-at Inv-loop μ-loop
 cast-at c = search needs
@@ -67,6 +68,9 @@ loop-less c = search needs
 loop-again : tie.Need-loop-again Inv-loop μ-loop
 loop-again c = (omega arith, simp length-set (c .before .loop .inv .1), simp length-set (c .before .loop .inv .2), inputs-on (c .before .loop .inv .3) (omega arith) (omega arith))
 
+mul-t14 : tie.Need-mul-t14 Inv-loop μ-loop
+mul-t14 c = search needs
+
 same-length : tie.Need-same-length Inv-loop μ-loop
 same-length c = search needs
 
@@ -74,7 +78,7 @@ same-length-2 : tie.Need-same-length-2 Inv-loop μ-loop
 same-length-2 c = search needs
 
 returns : tie.Need-returns Inv-loop μ-loop
-returns c = let q : c .before .loop .n ≡ c .before .before .args .inputs = omega arith in rw (← q) (c .before .loop .inv .3)
+returns c = let q : c .before .loop .n ≡ c .before .before .args .inputs = omega arith in (rw (← q) (c .before .loop .inv .3), inputs-totals _ (c .before .before .pre .0))
 
 pub add-inputs-spec : {M : Type 1} → statement M
 add-inputs-spec =
@@ -99,6 +103,7 @@ add-inputs-spec =
     add-n
     loop-less
     loop-again
+    mul-t14
     same-length
     same-length-2
     returns)

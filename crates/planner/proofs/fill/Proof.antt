@@ -3,7 +3,7 @@
 use native.Mathlib.Omega.{arith}
 use denote.Ref.{now}
 use Rattle.planner.proofs.Starting.{inputs-room, inputs-none, going-none}
-use Rattle.planner.proofs.Stepping.{given-same}
+use Rattle.planner.proofs.Stepping.{given-alike}
 use Rattle.planner.proofs.Calling.{filled-now, filled-none}
 use borrow.Author.Needs.{needs}
 use Rattle.planner.proofs.fill.Statement.{statement}
@@ -15,19 +15,19 @@ clear-all-requires c κs = search needs
 add-inputs-requires : tie.Need-add-inputs-requires
 add-inputs-requires c κs =
     let s = c .before .before .before .before .before .before .before .before .before .before .before .before .before .before .before .before .before .before .before .before in
-    let r = inputs-room (now (s .args .file)) (s .pre) in
+    let r = inputs-room (now (s .args .file)) (s .pre .0) in
+    let inputs = s .pre .1 in
     let cleared = c .before .before .before .before .before .before .before .before .before .before .clear-all .kept in
-    (r .0, omega arith, omega arith, inputs-none (now (s .args .file)) (s .pre) (c .before .before .before .before .before .before .before .before .before .before .clear-all .ensures))
-
-mul-t24 : tie.Need-mul-t24
-mul-t24 c = search needs
+    (omega arith, omega arith, omega arith, omega arith, inputs-none (now (s .args .file)) (s .pre .0) (c .before .before .before .before .before .before .before .before .before .before .clear-all .ensures))
 
 add-gates-requires : tie.Need-add-gates-requires
 add-gates-requires c κs =
     let s = c .before .before .before .before .before .before .before .before .before .before .before .before .before .before .before .before .before .before .before .before .before .before .before .before .before .before .before .before .before in
     let cleared = c .before .before .before .before .before .before .before .before .before .before .before .before .before .before .before .before .before .before .before .clear-all .kept in
-    let inputs = c .before .before .before .before .before .before .before .before .add-inputs .kept in
-    (given-same (s .pre) (omega arith) (omega arith) (omega arith) (omega arith), going-none (now (s .args .file)) (s .pre) (c .before .before .before .before .before .before .before .before .before .before .before .before .before .before .before .before .before .before .before .clear-all .ensures) (c .before .before .before .before .before .before .before .before .add-inputs .ensures))
+    let written = c .before .before .before .before .before .before .before .before .add-inputs .kept in (
+      (given-alike (s .pre .0) (record { directory = omega arith; times = omega arith; inertial = omega arith; fanins = omega arith }), s .pre .1, s .pre .2),
+      going-none (now (s .args .file)) (s .pre .0) (c .before .before .before .before .before .before .before .before .before .before .before .before .before .before .before .before .before .before .before .clear-all .ensures) (s .pre .1) (c .before .before .before .before .before .before .before .before .add-inputs .ensures .0) (c .before .before .before .before .before .before .before .before .add-inputs .ensures .1),
+    )
 
 enum-known-totals : tie.Need-enum-known-totals
 enum-known-totals c = search needs
@@ -39,34 +39,44 @@ clear-all-requires-2 : tie.Need-clear-all-requires-2
 clear-all-requires-2 c κs = search needs
 
 same-length : tie.Need-same-length
-same-length c = let g = c .before .before .before .before .before .before .before .before .before .before .before .before .before .before .before .before .before .before .before .before .before .before .before in let gates = g .add-gates .kept in let inputs = g .before .before .before .before .before .before .before .before .before .add-inputs .kept in let cleared = g .before .before .before .before .before .before .before .before .before .before .before .before .before .before .before .before .before .before .before .before .clear-all .kept in omega (arith, c .before .before .before .before .before .before .before .before .clear-all2 .kept)
+same-length c = let g = c .before .before .before .before .before .before .before .before .before .before .before .before .before .before .before .before .before .before .before .before .before .before .before in omega (arith, g .add-gates .kept, g .before .before .before .before .before .before .before .before .before .add-inputs .kept, g .before .before .before .before .before .before .before .before .before .before .before .before .before .before .before .before .before .before .before .before .clear-all .kept, c .before .before .before .before .before .before .before .before .clear-all2 .kept)
 
 same-length-2 : tie.Need-same-length-2
-same-length-2 c = let g = c .before .before .before .before .before .before .before .before .before .before .before .before .before .before .before .before .before .before .before .before .before .before .before in let gates = g .add-gates .kept in let inputs = g .before .before .before .before .before .before .before .before .before .add-inputs .kept in let cleared = g .before .before .before .before .before .before .before .before .before .before .before .before .before .before .before .before .before .before .before .before .clear-all .kept in omega (arith, c .before .before .before .before .before .before .before .before .clear-all2 .kept)
+same-length-2 c = let g = c .before .before .before .before .before .before .before .before .before .before .before .before .before .before .before .before .before .before .before .before .before .before .before in omega (arith, g .add-gates .kept, g .before .before .before .before .before .before .before .before .before .add-inputs .kept, g .before .before .before .before .before .before .before .before .before .before .before .before .before .before .before .before .before .before .before .before .clear-all .kept, c .before .before .before .before .before .before .before .before .clear-all2 .kept)
 
 same-length-3 : tie.Need-same-length-3
-same-length-3 c = let g = c .before .before .before .before .before .before .before .before .before .before .before .before .before .before .before .before .before .before .before .before .before .before .before in let gates = g .add-gates .kept in let inputs = g .before .before .before .before .before .before .before .before .before .add-inputs .kept in let cleared = g .before .before .before .before .before .before .before .before .before .before .before .before .before .before .before .before .before .before .before .before .clear-all .kept in omega (arith, c .before .before .before .before .before .before .before .before .clear-all2 .kept)
+same-length-3 c = let g = c .before .before .before .before .before .before .before .before .before .before .before .before .before .before .before .before .before .before .before .before .before .before .before in omega (arith, g .add-gates .kept, g .before .before .before .before .before .before .before .before .before .add-inputs .kept, g .before .before .before .before .before .before .before .before .before .before .before .before .before .before .before .before .before .before .before .before .clear-all .kept, c .before .before .before .before .before .before .before .before .clear-all2 .kept)
 
 same-length-4 : tie.Need-same-length-4
-same-length-4 c = let g = c .before .before .before .before .before .before .before .before .before .before .before .before .before .before .before .before .before .before .before .before .before .before .before in let gates = g .add-gates .kept in let inputs = g .before .before .before .before .before .before .before .before .before .add-inputs .kept in let cleared = g .before .before .before .before .before .before .before .before .before .before .before .before .before .before .before .before .before .before .before .before .clear-all .kept in omega (arith, c .before .before .before .before .before .before .before .before .clear-all2 .kept)
+same-length-4 c = let g = c .before .before .before .before .before .before .before .before .before .before .before .before .before .before .before .before .before .before .before .before .before .before .before in omega (arith, g .add-gates .kept, g .before .before .before .before .before .before .before .before .before .add-inputs .kept, g .before .before .before .before .before .before .before .before .before .before .before .before .before .before .before .before .before .before .before .before .clear-all .kept, c .before .before .before .before .before .before .before .before .clear-all2 .kept)
 
 returns : tie.Need-returns
-returns c = let g = c .before .before .before .before .before .before .before .before .before .before .before .before .before .before .before .before .before .before .before .before .before .before .before in let gates = g .add-gates .kept in let inputs = g .before .before .before .before .before .before .before .before .before .add-inputs .kept in let cleared = g .before .before .before .before .before .before .before .before .before .before .before .before .before .before .before .before .before .before .before .before .clear-all .kept in filled-none (now (c .before .before .before .before .before .before .before .before .before .before .before .before .before .before .before .before .before .before .before .before .before .before .before .before .before .before .before .before .before .before .before .before .before .before .before .before .before .before .before .before .before .before .before .before .before .before .before .before .before .before .before .before .before .args .file)) (c .before .before .before .before .before .before .before .before .before .before .before .before .before .before .before .before .before .before .before .before .before .before .before .before .before .before .before .before .before .before .before .before .before .before .before .before .before .before .before .before .before .before .before .before .before .before .before .before .before .before .before .before .before .pre) (g .add-gates .ensures) (c .before .before .before .before .before .before .before .before .before .before .before .before .before .enum-told .given .1) (c .before .before .before .before .before .before .before .before .clear-all2 .ensures) (record { directory = omega arith; times = omega arith; inertial = omega arith; fanins = omega arith })
+returns c =
+    let g = c .before .before .before .before .before .before .before .before .before .before .before .before .before .before .before .before .before .before .before .before .before .before .before in
+    let gates = g .add-gates .kept in
+    let inputs = g .before .before .before .before .before .before .before .before .before .add-inputs .kept in
+    let cleared = g .before .before .before .before .before .before .before .before .before .before .before .before .before .before .before .before .before .before .before .before .clear-all .kept in
+    filled-none (now (c .before .before .before .before .before .before .before .before .before .before .before .before .before .before .before .before .before .before .before .before .before .before .before .before .before .before .before .before .before .before .before .before .before .before .before .before .before .before .before .before .before .before .before .before .before .before .before .before .before .before .before .before .before .args .file)) (c .before .before .before .before .before .before .before .before .before .before .before .before .before .before .before .before .before .before .before .before .before .before .before .before .before .before .before .before .before .before .before .before .before .before .before .before .before .before .before .before .before .before .before .before .before .before .before .before .before .before .before .before .before .pre .2) (g .add-gates .ensures) (c .before .before .before .before .before .before .before .before .before .before .before .before .before .enum-told .given .1) (c .before .before .before .before .before .before .before .before .clear-all2 .ensures) (record { directory = omega arith; times = omega arith; inertial = omega arith; fanins = omega arith })
 
 same-length-5 : tie.Need-same-length-5
-same-length-5 c = let g = c .before .before .before .before .before .before .before .before .before .before .before in let gates = g .add-gates .kept in let inputs = g .before .before .before .before .before .before .before .before .before .add-inputs .kept in let cleared = g .before .before .before .before .before .before .before .before .before .before .before .before .before .before .before .before .before .before .before .before .clear-all .kept in omega arith
+same-length-5 c = let g = c .before .before .before .before .before .before .before .before .before .before .before in omega (arith, g .add-gates .kept, g .before .before .before .before .before .before .before .before .before .add-inputs .kept, g .before .before .before .before .before .before .before .before .before .before .before .before .before .before .before .before .before .before .before .before .clear-all .kept)
 
 same-length-6 : tie.Need-same-length-6
-same-length-6 c = let g = c .before .before .before .before .before .before .before .before .before .before .before in let gates = g .add-gates .kept in let inputs = g .before .before .before .before .before .before .before .before .before .add-inputs .kept in let cleared = g .before .before .before .before .before .before .before .before .before .before .before .before .before .before .before .before .before .before .before .before .clear-all .kept in omega arith
+same-length-6 c = search needs
 
 same-length-7 : tie.Need-same-length-7
-same-length-7 c = let g = c .before .before .before .before .before .before .before .before .before .before .before in let gates = g .add-gates .kept in let inputs = g .before .before .before .before .before .before .before .before .before .add-inputs .kept in let cleared = g .before .before .before .before .before .before .before .before .before .before .before .before .before .before .before .before .before .before .before .before .clear-all .kept in omega arith
+same-length-7 c = search needs
 
 same-length-8 : tie.Need-same-length-8
-same-length-8 c = let g = c .before .before .before .before .before .before .before .before .before .before .before in let gates = g .add-gates .kept in let inputs = g .before .before .before .before .before .before .before .before .before .add-inputs .kept in let cleared = g .before .before .before .before .before .before .before .before .before .before .before .before .before .before .before .before .before .before .before .before .clear-all .kept in omega arith
+same-length-8 c = search needs
 
 returns-2 : tie.Need-returns-2
-returns-2 c = let g = c .before .before .before .before .before .before .before .before .before .before .before in let gates = g .add-gates .kept in let inputs = g .before .before .before .before .before .before .before .before .before .add-inputs .kept in let cleared = g .before .before .before .before .before .before .before .before .before .before .before .before .before .before .before .before .before .before .before .before .clear-all .kept in filled-now (now (c .before .before .before .before .before .before .before .before .before .before .before .before .before .before .before .before .before .before .before .before .before .before .before .before .before .before .before .before .before .before .before .before .before .before .before .before .before .before .before .before .before .args .file)) (c .before .before .before .before .before .before .before .before .before .before .before .before .before .before .before .before .before .before .before .before .before .before .before .before .before .before .before .before .before .before .before .before .before .before .before .before .before .before .before .before .before .pre) (g .add-gates .ensures) _ (c .before .totals .given .1) (record { directory = omega arith; times = omega arith; inertial = omega arith; fanins = omega arith })
+returns-2 c =
+    let g = c .before .before .before .before .before .before .before .before .before .before .before in
+    let gates = g .add-gates .kept in
+    let inputs = g .before .before .before .before .before .before .before .before .before .add-inputs .kept in
+    let cleared = g .before .before .before .before .before .before .before .before .before .before .before .before .before .before .before .before .before .before .before .before .clear-all .kept in
+    filled-now (now (c .before .before .before .before .before .before .before .before .before .before .before .before .before .before .before .before .before .before .before .before .before .before .before .before .before .before .before .before .before .before .before .before .before .before .before .before .before .before .before .before .before .args .file)) (c .before .before .before .before .before .before .before .before .before .before .before .before .before .before .before .before .before .before .before .before .before .before .before .before .before .before .before .before .before .before .before .before .before .before .before .before .before .before .before .before .before .pre .2) (g .add-gates .ensures) _ (c .before .totals .given .1) (record { directory = omega arith; times = omega arith; inertial = omega arith; fanins = omega arith })
 
 pub fill-spec : {M : Type 1} → statement M
 fill-spec =
@@ -74,7 +84,6 @@ fill-spec =
     (tie.spec
     clear-all-requires
     add-inputs-requires
-    mul-t24
     add-gates-requires
     enum-known-totals
     enum-told

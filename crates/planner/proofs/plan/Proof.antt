@@ -1,8 +1,6 @@
 -- `plan` meets its contract: the questions in their order; the areas are filled only after 10.
 -- Assumes nothing.
-use denote.Ref.{now}
-use Rattle.planner.specs.Areas.{areas}
-use Rattle.planner.proofs.Calling.{given-all, plan-read, read-yes, plan-10, suits, plan-13, plan-yes}
+use Rattle.planner.proofs.Calling.{plan-read, plan-10, fill-given, plan-13, plan-yes}
 use borrow.Author.Needs.{needs}
 use Rattle.planner.proofs.plan.Statement.{statement}
 use Rattle.planner.proofs.plan.Tie as tie
@@ -35,7 +33,7 @@ returns : tie.Need-returns
 returns c = plan-10 _ _ (c .before .before .before .before .before .before .before .before .before .read .ensures) (c .before .before .before .before .before .before .before .inputs .given .1) (c .before .areas-suit .ensures) (c .if1 .taken)
 
 fill-requires : tie.Need-fill-requires
-fill-requires c κs = let s = c .before .before .before .before .before .before .before .before .before .before .before .before .before .before .before .before .before .before .before .args in let a = areas (now (s .directory)) (now (s .times)) (now (s .inertial)) (now (s .fanins)) in given-all (now (s .file)) a (read-yes (now (s .file)) a (c .before .before .before .before .before .before .before .before .before .before .before .before .before .read .ensures) (c .before .before .before .before .before .before .before .before .before .before .before .inputs .given .1)) (suits (now (s .file)) a (c .before .before .before .before .before .before .before .before .before .before .before .before .before .read .ensures) (c .before .before .before .before .before .before .before .before .before .before .before .inputs .given .1) (c .before .before .before .before .before .areas-suit .ensures) (c .before .before .before .before .if1 .left))
+fill-requires c κs = fill-given _ _ (c .before .before .before .before .before .before .before .before .before .before .before .before .before .read .ensures) (c .before .before .before .before .before .before .before .before .before .before .before .inputs .given .1) (c .before .before .before .before .before .areas-suit .ensures) (c .before .before .before .before .if1 .left)
 
 enum-told : tie.Need-enum-told
 enum-told c = search needs

@@ -1,31 +1,34 @@
--- `add_gates` meets its contract: j gates are planned; if one has too many frames, so have all.
+-- `add_gates` meets its contract: j gates are planned; once the gates so far have too many frames, so has the whole circuit.
 -- Assumes nothing.
 use Prim.Native.Nat.{_+_, _-_, _≤_}
 use mathlib.Core.Path.{_≡_, refl}
-use lib.ListN.{length}
 use native.Mathlib.Omega.{arith}
 use denote.Ref.{now}
 use Rattle.circuit.specs.File.{circuitOf}
+use Rattle.circuit.proofs.Parts.{gates-length}
 use Rattle.planner.specs.Areas.{areas}
 use Rattle.planner.specs.Steps.{Going}
-use Rattle.planner.proofs.Accepted.{gates-count}
+use Rattle.planner.proofs.Accepted.{few}
 use Rattle.planner.proofs.Fitting.{gave-up}
-use Rattle.planner.proofs.Stepping.{given-same, reached-now, reached-many}
+use Rattle.planner.proofs.Stepping.{Alike, given-alike, reached-now, reached-many}
 use borrow.Author.Needs.{needs}
 use Rattle.planner.proofs.gates.add_gates.Statement.{statement}
 use Rattle.planner.proofs.gates.add_gates.Tie as tie
 
 abbrev Inv-loop : tie.InvT-loop
-Inv-loop file inputs gates limit directory₀ times₀ inertial₀ fanins₀ totals₀ j₀ directory times inertial fanins totals j = (j ≤ gates) × (length directory ≡ length directory₀) × (length times ≡ length times₀) × (length inertial ≡ length inertial₀) × (length fanins ≡ length fanins₀) × Going file j limit (areas directory times inertial fanins) totals
+Inv-loop file inputs gates directory₀ times₀ inertial₀ fanins₀ totals₀ j₀ directory times inertial fanins totals j = (j ≤ gates) × Alike (areas directory₀ times₀ inertial₀ fanins₀) (areas directory times inertial fanins) × Going file j (areas directory times inertial fanins) totals
 
 abbrev μ-loop : tie.MeasureT-loop
-μ-loop file inputs gates limit directory₀ times₀ inertial₀ fanins₀ totals₀ j₀ directory times inertial fanins totals j = gates - j
+μ-loop file inputs gates directory₀ times₀ inertial₀ fanins₀ totals₀ j₀ directory times inertial fanins totals j = gates - j
 
 loop-holds : tie.Need-loop-holds Inv-loop μ-loop
-loop-holds c = (omega arith, refl, refl, refl, refl, c .before .before .before .before .before .pre .1)
+loop-holds c = (omega arith, record { directory = refl; times = refl; inertial = refl; fanins = refl }, c .before .before .before .before .before .pre .1)
+
+add-t14 : tie.Need-add-t14 Inv-loop μ-loop
+add-t14 c = let s = c .before .before .before .before .before .before .before in omega (arith, few (now (s .args .file)) (s .pre .0 .0 .read), s .pre .0 .1, s .pre .0 .2)
 
 add-gate-requires : tie.Need-add-gate-requires Inv-loop μ-loop
-add-gate-requires c κs = let v = c .before .before .before .before .before .loop .inv in ((given-same {a′ = areas (c .before .before .before .before .before .loop .directory) (c .before .before .before .before .before .loop .times) (c .before .before .before .before .before .loop .inertial) (c .before .before .before .before .before .loop .fanins)} (c .before .before .before .before .before .before .before .before .before .before .before .pre .0) (v .1) (v .2) (v .3) (v .4), c .before .before .before .before .loop-test .taken), v .5)
+add-gate-requires c κs = let s = c .before .before .before .before .before .before .before .before .before .before .before in let v = c .before .before .before .before .before .loop .inv in ((given-alike (s .pre .0 .0) (v .1), omega (arith, c .before .before .before .before .loop-test .taken, s .pre .0 .2), omega (arith, s .pre .0 .1)), v .2)
 
 enum-known-t : tie.Need-enum-known-t Inv-loop μ-loop
 enum-known-t c = search needs
@@ -46,7 +49,7 @@ same-length-4 : tie.Need-same-length-4 Inv-loop μ-loop
 same-length-4 c = search needs
 
 returns : tie.Need-returns Inv-loop μ-loop
-returns c = let s = c .before .before .before .before .before .before .before .before .before .before .before .before .before .before .before .before .before .before .before .before .before .before in reached-many _ _ _ _ (gave-up (s .args .limit) (circuitOf (now (s .args .file))) (c .before .before .before .before .before .before .before .before .before .before .before .before .before .before .before .before .loop .j + 1) (s .args .gates) (c .before .before .before .before .before .before .before .before .before .before .add-gate .ensures .stopped (c .enum-told .given .1)) (omega arith) (omega (arith, gates-count (now (s .args .file)) (s .pre .0 .read))))
+returns c = let s = c .before .before .before .before .before .before .before .before .before .before .before .before .before .before .before .before .before .before .before .before .before .before in reached-many _ _ _ (gave-up (circuitOf (now (s .args .file))) (c .before .before .before .before .before .before .before .before .before .before .before .before .before .before .before .before .loop .j + 1) (s .args .gates) (c .before .before .before .before .before .before .before .before .before .before .add-gate .ensures .stopped (c .enum-told .given .1)) (omega arith) (omega (arith, gates-length (now (s .args .file)), s .pre .0 .2)))
 
 add-j : tie.Need-add-j Inv-loop μ-loop
 add-j c = search needs
@@ -55,7 +58,10 @@ loop-less : tie.Need-loop-less Inv-loop μ-loop
 loop-less c = search needs
 
 loop-again : tie.Need-loop-again Inv-loop μ-loop
-loop-again c = let k = c .before .before .before .before .before .before .before .before .before .before .before .add-gate .kept in let v = c .before .before .before .before .before .before .before .before .before .before .before .before .before .before .before .before .before .loop .inv in (omega arith, omega (arith, k, v), omega (arith, k, v), omega (arith, k, v), omega (arith, k, v), c .before .before .before .before .before .before .before .before .before .before .before .add-gate .ensures .planned _ (c .before .t .given .1))
+loop-again c =
+    let k = c .before .before .before .before .before .before .before .before .before .before .before .add-gate .kept in
+    let v = c .before .before .before .before .before .before .before .before .before .before .before .before .before .before .before .before .before .loop .inv .1 in
+    (omega arith, record { directory = omega arith; times = omega arith; inertial = omega arith; fanins = omega arith }, c .before .before .before .before .before .before .before .before .before .before .before .add-gate .ensures .planned _ (c .before .t .given .1))
 
 same-length-5 : tie.Need-same-length-5 Inv-loop μ-loop
 same-length-5 c = search needs
@@ -70,7 +76,7 @@ same-length-8 : tie.Need-same-length-8 Inv-loop μ-loop
 same-length-8 c = search needs
 
 returns-2 : tie.Need-returns-2 Inv-loop μ-loop
-returns-2 c = let q : c .before .loop .j ≡ c .before .before .before .before .before .before .before .args .gates = omega arith in reached-now _ _ _ _ _ (rw (← q) (c .before .loop .inv .5))
+returns-2 c = let q : c .before .loop .j ≡ c .before .before .before .before .before .before .before .args .gates = omega arith in reached-now _ _ _ _ (rw (← q) (c .before .loop .inv .2))
 
 pub add-gates-spec : {M : Type 1} → statement M
 add-gates-spec =
@@ -79,6 +85,7 @@ add-gates-spec =
     Inv-loop
     μ-loop
     loop-holds
+    add-t14
     add-gate-requires
     enum-known-t
     enum-told

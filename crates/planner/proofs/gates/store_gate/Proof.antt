@@ -20,7 +20,7 @@ cast-index-rows : tie.Need-cast-index-rows
 cast-index-rows c = search needs
 
 index-rows-requires : tie.Need-index-rows-requires
-index-rows-requires c κs = let s = c .before .before .before .before .before .before .before .before .before .before .before .before .before .before in (s .pre .0, (s .pre .1 .0, (s .pre .1 .1 .0, s .pre .1 .1 .1 .fanins)))
+index-rows-requires c κs = let s = c .before .before .before .before .before .before .before .before .before .before .before .before .before .before in (s .pre .0, (s .pre .1 .0, s .pre .1 .1 .fanins))
 
 cast-store : tie.Need-cast-store
 cast-store c = search needs
@@ -53,13 +53,13 @@ slice-write-directory-2 : tie.Need-slice-write-directory-2
 slice-write-directory-2 c = search needs
 
 sub-t19 : tie.Need-sub-t19
-sub-t19 c = let s = c .before .before .before .before .before .before .before .before .before .before .before .before .before .before .before .before .before .before .before .before .before .before in omega (arith, own-some (now (s .args .own)) (s .pre .1 .1 .0 .starts))
+sub-t19 c = let s = c .before .before .before .before .before .before .before .before .before .before .before .before .before .before .before .before .before .before .before .before .before .before in omega (arith, own-some (now (s .args .own)) (s .pre .1 .0 .starts))
 
 mul-t30 : tie.Need-mul-t30
 mul-t30 c = search needs
 
 shared-slice-read-t29 : tie.Need-shared-slice-read-t29
-shared-slice-read-t29 c = let s = c .before .before .before .before .before .before .before .before .before .before .before .before .before .before .before .before .before .before .before .before .before .before .before in omega (arith, own-some (now (s .args .own)) (s .pre .1 .1 .0 .starts))
+shared-slice-read-t29 c = let s = c .before .before .before .before .before .before .before .before .before .before .before .before .before .before .before .before .before .before .before .before .before .before .before in omega (arith, own-some (now (s .args .own)) (s .pre .1 .0 .starts))
 
 cast-t29 : tie.Need-cast-t29
 cast-t29 c = search needs
@@ -71,10 +71,10 @@ cast-t34 : tie.Need-cast-t34
 cast-t34 c = search needs
 
 mul-t35 : tie.Need-mul-t35
-mul-t35 c = omega (arith, c .before .before .before .before .before .before .before .before .before .before .before .before .before .before .before .before .before .before .before .before .before .before .before .before .pre .1 .1 .1 .few-fanins)
+mul-t35 c = omega (arith, c .before .before .before .before .before .before .before .before .before .before .before .before .before .before .before .before .before .before .before .before .before .before .before .before .pre .1 .1 .few-fanins)
 
 add-t36 : tie.Need-add-t36
-add-t36 c = omega (arith, c .before .before .before .before .before .before .before .before .before .before .before .before .before .before .before .before .before .before .before .before .before .before .before .before .pre .1 .1 .1 .few-fanins)
+add-t36 c = omega (arith, c .before .before .before .before .before .before .before .before .before .before .before .before .before .before .before .before .before .before .before .before .before .before .before .before .pre .1 .1 .few-fanins)
 
 later-of-requires : tie.Need-later-of-requires
 later-of-requires c κs = search needs
@@ -99,8 +99,8 @@ returns c =
       times-are = c .before .before .before .before .before .before .store .ensures;
       inertial-is = c .before .before .before .before .before .before .before .before .before .before .before .before .before .before .before .before .inertial-row .ensures;
       fanins-are = c .before .before .before .before .before .before .before .before .before .before .index-rows .ensures;
-      frames-are = refl;
-      fanins-count = refl;
+      frames-sum = refl;
+      fanins-sum = refl;
       last-is = c .later-of .ensures;
     }
 

@@ -1,9 +1,8 @@
 -- `index_row` meets its contract: the indices of the fan-ins from e on are still to be stored.
 -- Assumes nothing.
-use Prim.Native.Nat.{_+_, _-_, _<_}
+use Prim.Native.Nat.{ℕ, _+_, _-_}
 use mathlib.Core.Path.{_≡_, refl}
 use mathlib.Core.List.{List, map}
-use Prim.Native.Nat.{ℕ}
 use lib.ListN.{length, drop, length-set}
 use lib.Seq.{sets}
 use native.Mathlib.Omega.{arith}
@@ -11,7 +10,7 @@ use native.Mathlib.Nat.{add-zero}
 use denote.Ref.{now}
 use Rattle.method.specs.Indices.{lastFrame}
 use Rattle.planner.specs.Steps.{Below, spans}
-use Rattle.planner.proofs.Spans.{span-few, spans-end}
+use Rattle.planner.proofs.Spans.{fanin-there, fanin-few, spans-end}
 use Rattle.planner.proofs.Indexing.{next-at, hint-at, found-at, row-on, row-end, below-set}
 use borrow.Author.Needs.{needs}
 use Rattle.planner.proofs.indices.index_row.Statement.{statement}
@@ -23,40 +22,36 @@ Inv-loop file directory times time hints₀ fanins₀ at list entries e₀ hints
 abbrev μ-loop : tie.MeasureT-loop
 μ-loop file directory times time hints₀ fanins₀ at list entries e₀ hints fanins e = entries - e
 
--- the fan-in is a net before the gate's
-low : (c : tie.After-fanin-at Inv-loop μ-loop) → c .fanin-at .result .0 < c .before .before .before .before .before .before .before .before .args .net .0
-low c = omega (arith, c .before .before .before .before .before .before .before .before .pre .0 .below (c .before .before .loop .e) (c .before .loop-test .taken), c .fanin-at .ensures)
-
 loop-holds : tie.Need-loop-holds Inv-loop μ-loop
-loop-holds c = (refl, refl, c .before .before .before .before .before .pre .1 .1 .2, rw add-zero)
+loop-holds c = (refl, refl, c .before .before .before .before .before .pre .1 .2, rw add-zero)
 
 fanin-at-requires : tie.Need-fanin-at-requires Inv-loop μ-loop
 fanin-at-requires c κs = search needs
 
 times-of-requires : tie.Need-times-of-requires Inv-loop μ-loop
-times-of-requires c κs = (omega (arith, low c, c .before .before .before .before .before .before .before .before .pre .1 .0 .pairs), c .before .before .before .before .before .before .before .before .pre .1 .0 .inside (c .fanin-at .result .0) (low c))
+times-of-requires c κs = fanin-there (c .before .before .before .before .before .before .before .before .pre .0) (c .before .before .loop .e) (c .before .loop-test .taken) (c .fanin-at .ensures)
 
 cast-i : tie.Need-cast-i Inv-loop μ-loop
 cast-i c = search needs
 
-mul-t18 : tie.Need-mul-t18 Inv-loop μ-loop
-mul-t18 c = omega (arith, c .before .before .before .before .before .before .before .before .before .pre .0 .entries-most)
+mul-t17 : tie.Need-mul-t17 Inv-loop μ-loop
+mul-t17 c = search needs
 
-slice-read-t20 : tie.Need-slice-read-t20 Inv-loop μ-loop
-slice-read-t20 c = omega (arith, c .before .before .before .before .before .before .before .before .before .before .pre .0 .entries-most, c .before .before .before .before .before .before .before .before .before .before .pre .1 .1 .1, c .before .before .before .before .loop .inv .0)
+slice-read-t19 : tie.Need-slice-read-t19 Inv-loop μ-loop
+slice-read-t19 c = search needs
 
 last-frame-requires : tie.Need-last-frame-requires Inv-loop μ-loop
 last-frame-requires c κs =
     let s = c .before .before .before .before .before .before .before .before .before .before in
-    let n = c .before .before .fanin-at .result .0 in
-    let l = low (c .before .before) in
-    (rw (c .before .times-of .ensures) (s .pre .1 .0 .starts n l), rw (c .before .times-of .ensures) (span-few (s .pre .1 .0) n l), hint-at _ _ _ _ _ _ (c .before .before .before .loop-test .taken) (c .before .before .fanin-at .ensures) (c .before .times-of .ensures) (c .before .before .before .before .loop .inv .2))
+    let l = c .before .before .before .before .loop in
+    let n = c .before .before .fanin-at .ensures in
+    (rw (c .before .times-of .ensures, n) (s .pre .0 .starts (l .e) (c .before .before .before .loop-test .taken)), rw (c .before .times-of .ensures) (fanin-few (s .pre .0) (l .e) (c .before .before .before .loop-test .taken) n), hint-at _ _ _ _ _ _ (c .before .before .before .loop-test .taken) n (c .before .times-of .ensures) (l .inv .2))
 
 mul-hints : tie.Need-mul-hints Inv-loop μ-loop
 mul-hints c = omega (arith, c .before .before .before .before .before .before .before .before .before .before .before .pre .0 .entries-most)
 
 slice-write-hints : tie.Need-slice-write-hints Inv-loop μ-loop
-slice-write-hints c = omega (arith, c .before .before .before .before .before .before .before .before .before .before .before .pre .0 .entries-most, c .before .before .before .before .before .before .before .before .before .before .before .pre .1 .1 .1, c .before .before .before .before .before .loop .inv .0)
+slice-write-hints c = omega (arith, c .before .before .before .before .before .before .before .before .before .before .before .pre .0 .entries-most, c .before .before .before .before .before .before .before .before .before .before .before .pre .1 .1, c .before .before .before .before .before .loop .inv .0)
 
 add-fanins : tie.Need-add-fanins Inv-loop μ-loop
 add-fanins c = search needs
@@ -79,7 +74,7 @@ loop-again c =
     let s = c .before .before .before .before .before .before .before .before .before .before .before in (
       simp length-set (l .inv .0),
       simp length-set (l .inv .1),
-      below-set (l .inv .2) (l .e) (omega (arith, s .pre .0 .entries-most, s .pre .1 .1 .1, l .inv .0)) (found-at _ _ _ _ _ _ (c .before .before .before .before .loop-test .taken) (c .before .before .before .fanin-at .ensures) (c .before .before .times-of .ensures) (s .args .time .0) (c .last-frame .ensures)),
+      below-set (l .inv .2) (l .e) (omega (arith, s .pre .0 .entries-most, s .pre .1 .1, l .inv .0)) (found-at _ _ _ _ _ _ (c .before .before .before .before .loop-test .taken) (c .before .before .before .fanin-at .ensures) (c .before .before .times-of .ensures) (s .args .time .0) (c .last-frame .ensures)),
       row-on (spans (now (s .args .file)) (s .args .gate .list) (s .args .gate .entries) (now (s .args .directory)) (now (s .args .times))) (s .args .time .0) (s .args .at) (l .e) (l .fanins) (l .inv .3) (next-at _ _ _ _ _ _ (c .before .before .before .before .loop-test .taken) (c .before .before .before .fanin-at .ensures) (c .before .before .times-of .ensures)) (c .last-frame .ensures),
     )
 
@@ -102,8 +97,8 @@ index-row-spec =
     fanin-at-requires
     times-of-requires
     cast-i
-    mul-t18
-    slice-read-t20
+    mul-t17
+    slice-read-t19
     last-frame-requires
     mul-hints
     slice-write-hints

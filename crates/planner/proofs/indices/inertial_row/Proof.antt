@@ -7,7 +7,7 @@ use lib.Seq.{sets}
 use native.Mathlib.Omega.{arith}
 use native.Mathlib.Nat.{add-zero}
 use denote.Ref.{now}
-use Rattle.lists.specs.Tables.{leading}
+use Rattle.lists.specs.Front.{leading}
 use Rattle.method.specs.Indices.{inertialIndices}
 use Rattle.planner.proofs.Indexing.{later-few, inertial-on, inertial-end}
 use borrow.Author.Needs.{needs}

@@ -2,7 +2,9 @@
 -- Assumes nothing.
 use native.Mathlib.Omega.{arith}
 use denote.Ref.{now}
-use Rattle.planner.proofs.Indexing.{found, found-low}
+use Rattle.method.proofs.Rising.{test-starts}
+use Rattle.method.proofs.Lasting.{last-within}
+use Rattle.planner.proofs.Indexing.{found}
 use borrow.Author.Needs.{needs}
 use Rattle.planner.proofs.indices.last_frame.Statement.{statement}
 use Rattle.planner.proofs.indices.last_frame.Tie as tie
@@ -20,7 +22,7 @@ sub-t5 : tie.Need-sub-t5
 sub-t5 c = search needs
 
 cast-t7 : tie.Need-cast-t7
-cast-t7 c = let s = c .before .before .before in omega (arith, found (now (s .args .times)) (s .args .from .0) (s .args .time .0) (s .pre .0) (s .pre .2) (c .first-above .ensures), found-low (now (s .args .times)) (s .args .time .0) (s .pre .0))
+cast-t7 c = let s = c .before .before .before in omega (arith, found (now (s .args .times)) (s .args .from .0) (s .args .time .0) (s .pre .0) (s .pre .2) (c .first-above .ensures), last-within (now (s .args .times)) (s .args .time .0) (test-starts (now (s .args .times)) (s .pre .0)))
 
 returns : tie.Need-returns
 returns c = let s = c .before .before .before in found (now (s .args .times)) (s .args .from .0) (s .args .time .0) (s .pre .0) (s .pre .2) (c .first-above .ensures)

@@ -6,7 +6,7 @@ use lib.ListN.{length, getD, take, drop}
 use lib.Seq.{length-take-le}
 use native.Mathlib.Omega.{arith}
 use denote.Ref.{now}
-use Rattle.lists.specs.Tables.{leading}
+use Rattle.lists.specs.Front.{leading}
 use Rattle.planner.specs.Steps.{into}
 use Rattle.planner.proofs.Inserting.{place-found, place-next, inserted}
 use Rattle.planner.proofs.Indexing.{own-next}
@@ -16,14 +16,14 @@ use Rattle.planner.proofs.times.add_times.Statement.{statement}
 use Rattle.planner.proofs.times.add_times.Tie as tie
 
 abbrev Inv-loop : tie.InvT-loop
-Inv-loop fanin delay row₀ count n₀ place₀ k₀ row n place k = (1 ≤ k) × (k ≤ length fanin + 1) × (n + 1 ≤ count + k) × (length row ≡ length row₀) × (k < length fanin → place ≤ leading (getD fanin k 0 + delay - 1) (take n row)) × (into delay (drop 1 fanin) (take count row₀) ≡ into delay (drop k fanin) (take n row))
+Inv-loop fanin delay gathered₀ count n₀ place₀ k₀ gathered n place k = (1 ≤ k) × (k ≤ length fanin + 1) × (n + 1 ≤ count + k) × (length gathered ≡ length gathered₀) × (k < length fanin → place ≤ leading (getD fanin k 0 + delay - 1) (take n gathered)) × (into delay (drop 1 fanin) (take count gathered₀) ≡ into delay (drop k fanin) (take n gathered))
 
 abbrev μ-loop : tie.MeasureT-loop
-μ-loop fanin delay row₀ count n₀ place₀ k₀ row n place k = length fanin - k
+μ-loop fanin delay gathered₀ count n₀ place₀ k₀ gathered n place k = length fanin - k
 
 -- the place that the search finds
-found : (c : tie.After-first-above Inv-loop μ-loop) → c .first-above .result ≡ leading (getD (now (c .before .before .before .before .before .before .before .before .args .fanin)) (c .before .before .before .before .before .loop .k) 0 + c .before .before .before .before .before .before .before .before .args .delay - 1) (take (c .before .before .before .before .before .loop .n) (c .before .before .before .before .before .loop .row))
-found c = place-found (c .before .before .before .before .before .loop .row) (c .before .before .before .before .before .loop .n) (c .before .before .before .before .before .loop .place) (getD (now (c .before .before .before .before .before .before .before .before .args .fanin)) (c .before .before .before .before .before .loop .k) 0 + c .before .before .before .before .before .before .before .before .args .delay - 1) (c .before .before .before .before .before .loop .inv .4 (c .before .before .before .before .loop-test .taken)) (c .first-above .ensures)
+found : (c : tie.After-first-above Inv-loop μ-loop) → c .first-above .result ≡ leading (getD (now (c .before .before .before .before .before .before .before .before .args .fanin)) (c .before .before .before .before .before .loop .k) 0 + c .before .before .before .before .before .before .before .before .args .delay - 1) (take (c .before .before .before .before .before .loop .n) (c .before .before .before .before .before .loop .gathered))
+found c = place-found (c .before .before .before .before .before .loop .gathered) (c .before .before .before .before .before .loop .n) (c .before .before .before .before .before .loop .place) (getD (now (c .before .before .before .before .before .before .before .before .args .fanin)) (c .before .before .before .before .before .loop .k) 0 + c .before .before .before .before .before .before .before .before .args .delay - 1) (c .before .before .before .before .before .loop .inv .4 (c .before .before .before .before .loop-test .taken)) (c .first-above .ensures)
 
 loop-holds : tie.Need-loop-holds Inv-loop μ-loop
 loop-holds c = (omega arith, omega arith, omega arith, refl, (λ h. omega arith), refl)
@@ -71,7 +71,7 @@ loop-again c =
       omega (arith, i .most),
       omega (arith, c .before .before .put-time .kept),
       (λ h. place-next i (omega arith) (found (c .before .before .before .before)) (getD (now (s .args .fanin)) (l .k + 1) 0 + s .args .delay) (omega (arith, own-next (now (s .args .fanin)) (s .pre .0 .0) (l .k) h))),
-      rw (← inserted i) (into-on (now (s .args .fanin)) (s .args .delay) (l .k) (take (l .n) (l .row)) (l .inv .5) (c .before .before .before .before .before .before .before .before .loop-test .taken)),
+      rw (← inserted i) (into-on (now (s .args .fanin)) (s .args .delay) (l .k) (take (l .n) (l .gathered)) (l .inv .5) (c .before .before .before .before .before .before .before .before .loop-test .taken)),
     )
 
 same-length : tie.Need-same-length Inv-loop μ-loop
@@ -81,7 +81,7 @@ returns : tie.Need-returns Inv-loop μ-loop
 returns c =
     let s = c .before .before .before .before in
     let l = c .before .loop in
-    let e = into-end (now (s .args .fanin)) (s .args .delay) (l .k) (take (l .n) (l .row)) (l .inv .5) (c .loop-test .left) in
+    let e = into-end (now (s .args .fanin)) (s .args .delay) (l .k) (take (l .n) (l .gathered)) (l .inv .5) (c .loop-test .left) in
     record { is = e; size = rw (← e) (length-take-le _ _ (omega arith)); few = omega arith }
 
 pub add-times-spec : {M : Type 1} → statement M
