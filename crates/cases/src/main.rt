@@ -11,7 +11,7 @@ mod plans;
 use circuit::Reading;
 use libc::STDIN_FILENO;
 use libc::STDOUT_FILENO;
-use plans::show_lengths;
+use plans::lengths;
 use plans::show_plan;
 use plans::show_short;
 
@@ -25,20 +25,6 @@ fn main() {
         turns += 1;
     }
     end_of_turns();
-}
-
-// Areas of the right lengths, then one area too short or too long, then none of any length.
-fn lengths() {
-    show_lengths(320, 2048, 2048, 16384);
-    show_lengths(319, 2048, 2048, 16384);
-    show_lengths(321, 2048, 2048, 16384);
-    show_lengths(320, 2047, 2048, 16384);
-    show_lengths(320, 2049, 2048, 16384);
-    show_lengths(320, 2048, 2047, 16384);
-    show_lengths(320, 2048, 2049, 16384);
-    show_lengths(320, 2048, 2048, 16383);
-    show_lengths(320, 2048, 2048, 16385);
-    show_lengths(0, 0, 0, 0);
 }
 
 // Says so where input is left.

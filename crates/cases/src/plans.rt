@@ -5,7 +5,7 @@ use libc::STDOUT_FILENO;
 use planner::Planning;
 
 // Plans the file, and prints the answer and the sums.
-pub fn show_plan(file: &[u8]) {
+pub(crate) fn show_plan(file: &[u8]) {
     let mut directory = [7u16; 320];
     let mut times = [7u16; 2048];
     let mut inertial = [7u16; 2048];
@@ -28,7 +28,7 @@ fn plan_in(
 }
 
 // Plans the file in areas of which the directory is too short, and prints the answer.
-pub fn show_short(file: &[u8]) {
+pub(crate) fn show_short(file: &[u8]) {
     let mut directory = [7u16; 319];
     let mut times = [7u16; 2048];
     let mut inertial = [7u16; 2048];
@@ -36,8 +36,22 @@ pub fn show_short(file: &[u8]) {
     show_planning(planner::plan(file, &mut directory, &mut times, &mut inertial, &mut fanins));
 }
 
+// Areas of the right lengths, then one area too short or too long, then none of any length.
+pub(crate) fn lengths() {
+    show_lengths(320, 2048, 2048, 16384);
+    show_lengths(319, 2048, 2048, 16384);
+    show_lengths(321, 2048, 2048, 16384);
+    show_lengths(320, 2047, 2048, 16384);
+    show_lengths(320, 2049, 2048, 16384);
+    show_lengths(320, 2048, 2047, 16384);
+    show_lengths(320, 2048, 2049, 16384);
+    show_lengths(320, 2048, 2048, 16383);
+    show_lengths(320, 2048, 2048, 16385);
+    show_lengths(0, 0, 0, 0);
+}
+
 // Plans a circuit of one input in areas of these lengths, and prints the lengths, the answer and the sums.
-pub fn show_lengths(directory: usize, times: usize, inertial: usize, fanins: usize)
+fn show_lengths(directory: usize, times: usize, inertial: usize, fanins: usize)
     requires { ⌜ (directory ≤ 400) × (times ≤ 2100) × (inertial ≤ 2100) × (fanins ≤ 16400) ⌝ }
 {
     let mut d = [7u16; 400];

@@ -4,14 +4,14 @@ ghost use Prim.Native.Nat.{_-_, _/_};
 ghost use Rattle.circuit.specs.File.{byteAt, numberAt, offsetOf, lengthOf, recordHead, kindOf};
 use method::Kind;
 
-pub fn byte_at(file: &[u8], at: usize) -> u8
+pub(crate) fn byte_at(file: &[u8], at: usize) -> u8
     ensures { λ r. ⌜ r ≡ byteAt (now (file .entry)) at ⌝ }
 {
     if at < file.len() { file[at] } else { 0 }
 }
 
 // The two-byte number at a place.
-pub fn number_at(file: &[u8], at: usize) -> u16
+pub(crate) fn number_at(file: &[u8], at: usize) -> u16
     ensures { λ r. ⌜ r ≡ numberAt (now (file .entry)) at ⌝ }
 {
     if file.len() <= at {
@@ -23,28 +23,28 @@ pub fn number_at(file: &[u8], at: usize) -> u16
 }
 
 // Where gate j's record starts.
-pub fn offset_of(file: &[u8], j: u16) -> u16
+pub(crate) fn offset_of(file: &[u8], j: u16) -> u16
     ensures { λ r. ⌜ r ≡ offsetOf (now (file .entry)) j ⌝ }
 {
     number_at(file, 4 + 4 * (j as usize))
 }
 
 // How long gate j's record is.
-pub fn length_of(file: &[u8], j: u16) -> u16
+pub(crate) fn length_of(file: &[u8], j: u16) -> u16
     ensures { λ r. ⌜ r ≡ lengthOf (now (file .entry)) j ⌝ }
 {
     number_at(file, 6 + 4 * (j as usize))
 }
 
 // How many fan-in entries a record of this length has.
-pub fn entries_of(len: u16) -> u16
+pub(crate) fn entries_of(len: u16) -> u16
     ensures { λ r. ⌜ r ≡ (len - recordHead) / 2 ⌝ }
 {
     if len < 3 { 0 } else { (len - 3) / 2 }
 }
 
 // The kind with this number.
-pub fn kind_of(number: u8) -> Kind
+pub(crate) fn kind_of(number: u8) -> Kind
     ensures { λ r. ⌜ r ≡ kindOf number ⌝ }
 {
     match number {

@@ -1,4 +1,4 @@
--- A loop that stores a row into an area, one number a turn: after k turns the numbers from k on are still to be stored;
+-- Loops that store a row into an area, one number a turn, wherever they have it from: after k turns the numbers from k on are still to be stored;
 -- and a row stored in two parts.
 -- Assumes nothing.
 use Prim.Native.Nat.{ℕ, suc, _≤_, _<_, _+_}
@@ -7,7 +7,7 @@ use mathlib.Core.List.{List, [], _∷_, _++_}
 use native.Mathlib.Omega.{arith}
 use native.Mathlib.Nat.{add-zero, add-suc}
 use native.Mathlib.Numerals.{add-one}
-use lib.ListN.{length, getD, drop, set, drop-of-length-le}
+use lib.ListN.{length, getD, drop, set, length-set, drop-of-length-le}
 use lib.Seq.{sets, set-out, drop-cons}
 
 -- past the end of the area nothing is stored
@@ -23,11 +23,11 @@ pub record Left (area₀ : List ℕ) (at : ℕ) (row area : List ℕ) (k : ℕ) 
 pub none : (area : List ℕ) (at : ℕ) (row : List ℕ) → Left area at row area 0
 none area at row = record { same = refl; is = rw add-zero }
 
-pub more : {area₀ row area : List ℕ} {at k : ℕ} → Left area₀ at row area k → k < length row → Left area₀ at row (set area (at + k) (getD row k 0)) (k + 1)
-more {area₀} {row} {area} {at} {k} f h =
+pub more : {area₀ row area : List ℕ} {at k : ℕ} → Left area₀ at row area k → k < length row → {v : ℕ} → v ≡ getD row k 0 → Left area₀ at row (set area (at + k) v) (k + 1)
+more {area₀} {row} {area} {at} {k} f h {v} q =
     record {
-      same = lib.ListN.length-set area (at + k) (getD row k 0) ∙ f .same;
-      is = f .is ∙ rw (drop-cons row k 0 h, add-one k, add-suc at k);
+      same = length-set area (at + k) v ∙ f .same;
+      is = f .is ∙ rw (drop-cons row k 0 h, add-one k, add-suc at k, q);
     }
 
 pub all : {area₀ row area : List ℕ} {at k : ℕ} → Left area₀ at row area k → length row ≤ k → area ≡ sets area₀ at row

@@ -1,16 +1,17 @@
--- The loops over a gate's frames: an index stored a turn. Hints say where the search for a fan-in's frame may start.
+-- The indices of a gate's frames, as searches find them. Hints say where the search for a fan-in's frame may start.
 -- Assumes nothing.
-use Prim.Native.Nat.{ℕ, suc, _+_, _-_, _*_, _<_, _≤_}
+use Prim.Native.Nat.{ℕ, zero, suc, _+_, _-_, _*_, _<_, _≤_}
 use mathlib.Core.Path.{_≡_, refl, sym, ap, ap₂, _∙_}
 use mathlib.Core.Bool.{true, false≢true}
 use mathlib.Core.List.{List, [], _∷_, map, flatMap}
 use native.Mathlib.Omega.{arith}
-use native.Mathlib.Nat.{add-suc, suc-mul, mul-le-mul-right}
+use native.Mathlib.Nat.{suc-mul, mul-le-mul-right}
 use native.Mathlib.Numerals.{add-one}
-use lib.ListN.{length, getD, drop, set, replicate, length-drop, length-map, drop-of-length-le}
+use lib.ListN.{length, getD, drop, set, replicate, length-drop, length-map, drop-of-length-le, List·getD-map}
 use lib.Seq.{sets, drop-cons, drop-drop, getD-set-same, getD-set-other}
 use Rattle.lists.specs.Front.{leading}
 use Rattle.lists.proofs.Choices.{less, same, more, tri}
+use Rattle.lists.proofs.ByNumber.{getD-any}
 use Rattle.lists.proofs.Zeros.{zeros-at}
 use Rattle.lists.proofs.Storing.{sets-append}
 use Rattle.lists.proofs.Leading.{leading-most, leading-skip}
@@ -36,19 +37,18 @@ own-next ts e k h =
     let r : Rise (getD ts k 0) (getD ts (suc k) 0 ∷ drop (suc (suc k)) ts) = rw (drop-cons ts (suc k) 0 (omega arith)) at (starts-drop ts (test-starts ts e) k (omega arith)) in
     rw (add-one k) (omega (arith, r .0))
 
--- ---- inertial indices: those from frame k on are still to be stored
+-- ---- inertial indices: that of frame k is what the search from k + 1 on counts
 
-module _ (ts : List ℕ) (di k first : ℕ) (f : List ℕ) {w : List ℕ} (h : w ≡ sets f (first + k) (inertialIndices di (drop k ts))) where
-  pub inertial-on : startAndRise ts ≡ true → k < length ts → {v : ℕ} → v ≡ leading (getD ts k 0 + di) (drop (k + 1) ts)
-      → w ≡ sets (set f (first + k) v) (first + (k + 1)) (inertialIndices di (drop (k + 1) ts))
-  inertial-on e l {v} q =
-      let all : leading (getD ts k 0 + di) (drop (suc k) ts) ≡ upTo (getD ts k 0 + di) (drop (suc k) ts) =
-      leading-all (getD ts k 0) (getD ts k 0 + di) (drop (suc k) ts) (starts-drop ts (test-starts ts e) k l) in
-      let is : v ≡ upTo (getD ts k 0 + di) (drop (suc k) ts) = q ∙ rw (add-one k) all in
-      h ∙ rw (drop-cons ts k 0 l, ← is, add-one k, add-suc first k)
+inertial-entry : (di : ℕ) (ts : List ℕ) (k : ℕ) → k < length ts → getD (inertialIndices di ts) k 0 ≡ upTo (getD ts k 0 + di) (drop (suc k) ts)
+inertial-entry di [] k h = absurd (omega arith)
+inertial-entry di (t ∷ ts) zero h = refl
+inertial-entry di (t ∷ ts) (suc k) h = inertial-entry di ts k (omega arith)
 
-  pub inertial-end : length ts ≤ k → f ≡ w
-  inertial-end l = sym (h ∙ rw (drop-of-length-le ts l))
+pub inertial-at : (di : ℕ) (ts : List ℕ) → startAndRise ts ≡ true → (k : ℕ) → k < length ts → {v : ℕ} → v ≡ leading (getD ts k 0 + di) (drop (k + 1) ts) → v ≡ getD (inertialIndices di ts) k 0
+inertial-at di ts e k l q =
+    let all : leading (getD ts k 0 + di) (drop (suc k) ts) ≡ upTo (getD ts k 0 + di) (drop (suc k) ts) =
+    leading-all (getD ts k 0) (getD ts k 0 + di) (drop (suc k) ts) (starts-drop ts (test-starts ts e) k l) in
+    q ∙ rw (add-one k) (all ∙ sym (inertial-entry di ts k l))
 
 pub later-few : (e k : ℕ) (ts : List ℕ) → leading e (drop k ts) ≤ length ts
 later-few e k ts = omega (arith, leading-most e (drop k ts), length-drop k ts)
@@ -78,14 +78,19 @@ module _ (file : List ℕ) (list entries : ℕ) (d t : List ℕ) (e : ℕ) (h : 
   pub found-at : (time : ℕ) {v : ℕ} → v ≡ lastFrame s time → v ≡ lastFrame (getD (spans file list entries d t) e []) time
   found-at time g = rw (← times-at) g
 
--- ---- a row of fan-in indices: those of the fan-ins from e on are still to be stored
+  -- the frame found is entry e of the row of last frames
+  pub entry-there : (time : ℕ) → e < length (map (λ (x : List ℕ). lastFrame x time) (spans file list entries d t))
+  entry-there time = rw (length-map (spans file list entries d t) (λ (x : List ℕ). lastFrame x time), spans-length file list entries d t) h
 
-module _ (ss : List (List ℕ)) (time at e : ℕ) (f : List ℕ) {w : List ℕ} (h : w ≡ sets f (at + e) (map (λ (s : List ℕ). lastFrame s time) (drop e ss))) where
-  pub row-on : {s : List ℕ} → drop e ss ≡ s ∷ drop (e + 1) ss → {v : ℕ} → v ≡ lastFrame s time → w ≡ sets (set f (at + e) v) (at + (e + 1)) (map (λ (s : List ℕ). lastFrame s time) (drop (e + 1) ss))
-  row-on {s} n {v} q = h ∙ rw (n, ← q) (rw (let p : at + (e + 1) ≡ suc (at + e) = omega arith in p))
+  pub entry-at : (time : ℕ) {v : ℕ} → v ≡ lastFrame s time → v ≡ getD (map (λ (x : List ℕ). lastFrame x time) (spans file list entries d t)) e 0
+  entry-at time g =
+      let last : List ℕ → ℕ = λ (x : List ℕ). lastFrame x time in
+      found-at time g
+      ∙ sym (getD-any (map last (spans file list entries d t)) e 0 (last []) (entry-there time) ∙ List·getD-map last (spans file list entries d t) e [])
 
-  pub row-end : length ss ≤ e → f ≡ w
-  row-end l = sym (h ∙ rw (drop-of-length-le ss l))
+-- and behind the last fan-in there is none
+pub entries-end : (file : List ℕ) (list entries : ℕ) (d t : List ℕ) (time e : ℕ) → entries ≤ e → length (map (λ (x : List ℕ). lastFrame x time) (spans file list entries d t)) ≤ e
+entries-end file list entries d t time e h = rw (length-map (spans file list entries d t) (λ (x : List ℕ). lastFrame x time), spans-length file list entries d t) h
 
 -- ---- hints
 

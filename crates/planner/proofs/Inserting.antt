@@ -2,6 +2,7 @@
 -- Assumes nothing.
 use Prim.Native.Nat.{ℕ, zero, suc, _+_, _-_, _<_, _≤_}
 use mathlib.Core.Path.{_≡_, refl, sym, _∙_, ap}
+use mathlib.Core.Logic.{inl, inr}
 use mathlib.Core.List.{List, [], _∷_, _++_, append-assoc}
 use lib.ListN.{length, getD, take, drop, set, length-append, length-drop, List·getD-append, take-append-drop, drop-of-length-le}
 use lib.Seq.{take-suc, drop-cons, getD-take, length-take-le, set-at, take-take, take-at}
@@ -10,7 +11,6 @@ use native.Mathlib.Nat.{sub-zero}
 use native.Mathlib.Numerals.{add-one}
 use borrow.Author.Tests.{lt-ltb, le-ltb, le-leb, lt-leb, eq-eqb, ne-eqb}
 use Rattle.lists.specs.Front.{leading}
-use mathlib.Core.Logic.{inl, inr}
 use Rattle.lists.proofs.Choices.{order, less, same, more, tri}
 use Rattle.lists.proofs.Leading.{leading-most, leading-skip}
 use Rattle.method.specs.Times.{insert}
@@ -90,6 +90,10 @@ pub place-found : (row : List ℕ) (count from e : ℕ) → from ≤ leading e (
     → p ≡ leading e (take count row)
 place-found row count from e h q = q ∙ rw (front row count) (sym (leading-skip e from (take count row) h))
 
+-- a time that is not 0
+not-zero : (t : ℕ) → 1 ≤ t → t ≡ suc (t - 1)
+not-zero t h = (let q : t ≡ (t - 1) + 1 = omega arith in q) ∙ add-one (t - 1)
+
 -- ---- the cases of `put_time`: p is the place of t among the first `count` of the row
 
 module _ (row : List ℕ) (count t : ℕ) (fits : count < length row) (pos : 1 ≤ t) {p : ℕ} (h : p ≡ leading (t - 1) (take count row)) where
@@ -97,7 +101,7 @@ module _ (row : List ℕ) (count t : ℕ) (fits : count < length row) (pos : 1 �
   n = length-take-le count row (omega arith)
 
   t-is : t ≡ suc (t - 1)
-  t-is = (let q : t ≡ (t - 1) + 1 = omega arith in q) ∙ add-one (t - 1)
+  t-is = not-zero t pos
 
   pub place-within : p ≤ count
   place-within = omega (arith, n, leading-most (t - 1) (take count row))
@@ -138,7 +142,6 @@ inserted {row} {row′} {count} {t} {r} i = sym (rw (i .row-is) (take-at (insert
 -- the place of a later time is not before
 pub place-next : {row row′ : List ℕ} {count t r : ℕ} → Inserted row row′ count t r → 1 ≤ t → {p : ℕ} → p ≡ leading (t - 1) (take count row) → (t′ : ℕ) → t ≤ t′ → p ≤ leading (t′ - 1) (take r row′)
 place-next {row} {row′} {count} {t} {r} i pos {p} q t′ h =
-    let e : t ≡ suc (t - 1) = (let z : t ≡ (t - 1) + 1 = omega arith in z) ∙ add-one (t - 1) in
     let l : leading (t - 1) (take count row) ≤ leading (t′ - 1) (insert (suc (t - 1)) (take count row)) = place-later (t - 1) (t′ - 1) (omega arith) (take count row) in
-    let same : insert (suc (t - 1)) (take count row) ≡ take r row′ = ap (λ (x : ℕ). insert x (take count row)) (sym e) ∙ inserted i in
+    let same : insert (suc (t - 1)) (take count row) ≡ take r row′ = ap (λ (x : ℕ). insert x (take count row)) (sym (not-zero t pos)) ∙ inserted i in
     rw (← same) (omega arith)

@@ -26,7 +26,7 @@ const MOST_TOTAL_FRAMES: u16 = 2048;
 const GATHERED_LENGTH: usize = MOST_FANINS * MOST_NET_FRAMES + 2;
 
 // Plans the gates, until one shows that there are too many frames.
-pub fn add_gates(
+pub(crate) fn add_gates(
     file: &[u8],
     inputs: u16,
     gates: u16,

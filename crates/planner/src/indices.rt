@@ -19,7 +19,7 @@ use method::Frame;
 use method::Time;
 
 // Writes the inertial index of each of a gate's own times, from `first` on; `reach` is the inertial delay.
-pub fn inertial_row(own: &[u16], reach: u16, inertial: &mut [u16], first: usize)
+pub(crate) fn inertial_row(own: &[u16], reach: u16, inertial: &mut [u16], first: usize)
     requires { ⌜ Own (now own) ⌝ }
     requires { ⌜ (reach ≤ mostDelay) × (first + length (now own) ≤ length (now inertial)) ⌝ }
     ensures { λ _. ⌜ now (inertial .exit) ≡ sets (now (inertial .entry)) first (inertialIndices reach (now (own .entry))) ⌝ }
@@ -33,7 +33,7 @@ pub fn inertial_row(own: &[u16], reach: u16, inertial: &mut [u16], first: usize)
 }
 
 // Writes the fan-in indices of all frames of a gate, whose own times these are, from `first` on.
-pub fn index_rows(
+pub(crate) fn index_rows(
     file: &[u8],
     gate: GateRecord,
     directory: &[u16],

@@ -15,7 +15,7 @@ use method::Net;
 use method::Time;
 
 // Puts 0, and each later time of each fan-in plus the delay, at the front of `gathered`, rising, each once; how many.
-pub fn gate_times(
+pub(crate) fn gate_times(
     file: &[u8],
     gate: GateRecord,
     directory: &[u16],
@@ -41,7 +41,7 @@ pub fn gate_times(
 }
 
 // The times of a net that is planned.
-pub fn times_of<'a>(directory: &[u16], times: &'a [u16], net: Net) -> &'a [u16]
+pub(crate) fn times_of<'a>(directory: &[u16], times: &'a [u16], net: Net) -> &'a [u16]
     requires { ⌜ 2 * net .0 + 1 < length (now directory) ⌝ }
     requires { ⌜ getD (now directory) (2 * net .0) 0 + getD (now directory) (2 * net .0 + 1) 0 ≤ length (now times) ⌝ }
     ensures { λ r. ⌜ now r ≡ span (now (directory .entry)) (now (times .entry)) (net .0) ⌝ }

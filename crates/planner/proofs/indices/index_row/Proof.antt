@@ -1,29 +1,27 @@
 -- `index_row` meets its contract: the indices of the fan-ins from e on are still to be stored.
 -- Assumes nothing.
-use Prim.Native.Nat.{ℕ, _+_, _-_}
+use Prim.Native.Nat.{ℕ, _-_}
 use mathlib.Core.Path.{_≡_, refl}
 use mathlib.Core.List.{List, map}
-use lib.ListN.{length, drop, length-set}
-use lib.Seq.{sets}
+use lib.ListN.{length, length-set}
 use native.Mathlib.Omega.{arith}
-use native.Mathlib.Nat.{add-zero}
-use denote.Ref.{now}
+use Rattle.lists.proofs.Storing.{Left, none, more, all}
 use Rattle.method.specs.Indices.{lastFrame}
 use Rattle.planner.specs.Steps.{Below, spans}
-use Rattle.planner.proofs.Spans.{fanin-there, fanin-few, spans-end}
-use Rattle.planner.proofs.Indexing.{next-at, hint-at, found-at, row-on, row-end, below-set}
+use Rattle.planner.proofs.Spans.{fanin-there, fanin-few}
+use Rattle.planner.proofs.Indexing.{hint-at, found-at, entry-there, entry-at, entries-end, below-set}
 use borrow.Author.Needs.{needs}
 use Rattle.planner.proofs.indices.index_row.Statement.{statement}
 use Rattle.planner.proofs.indices.index_row.Tie as tie
 
 abbrev Inv-loop : tie.InvT-loop
-Inv-loop file directory times time hints₀ fanins₀ at list entries e₀ hints fanins e = (length hints ≡ length hints₀) × (length fanins ≡ length fanins₀) × Below (spans file list entries directory times) (time .0) hints × (sets fanins₀ at (map (λ (s : List ℕ). lastFrame s (time .0)) (spans file list entries directory times)) ≡ sets fanins (at + e) (map (λ (s : List ℕ). lastFrame s (time .0)) (drop e (spans file list entries directory times))))
+Inv-loop file directory times time hints₀ fanins₀ at list entries e₀ hints fanins e = (length hints ≡ length hints₀) × Below (spans file list entries directory times) (time .0) hints × Left fanins₀ at (map (λ (s : List ℕ). lastFrame s (time .0)) (spans file list entries directory times)) fanins e
 
 abbrev μ-loop : tie.MeasureT-loop
 μ-loop file directory times time hints₀ fanins₀ at list entries e₀ hints fanins e = entries - e
 
 loop-holds : tie.Need-loop-holds Inv-loop μ-loop
-loop-holds c = (refl, refl, c .before .before .before .before .before .pre .1 .2, rw add-zero)
+loop-holds c = (refl, c .before .before .before .before .before .pre .1 .2, none _ _ _)
 
 fanin-at-requires : tie.Need-fanin-at-requires Inv-loop μ-loop
 fanin-at-requires c κs = search needs
@@ -45,7 +43,7 @@ last-frame-requires c κs =
     let s = c .before .before .before .before .before .before .before .before .before .before in
     let l = c .before .before .before .before .loop in
     let n = c .before .before .fanin-at .ensures in
-    (rw (c .before .times-of .ensures, n) (s .pre .0 .starts (l .e) (c .before .before .before .loop-test .taken)), rw (c .before .times-of .ensures) (fanin-few (s .pre .0) (l .e) (c .before .before .before .loop-test .taken) n), hint-at _ _ _ _ _ _ (c .before .before .before .loop-test .taken) n (c .before .times-of .ensures) (l .inv .2))
+    (rw (c .before .times-of .ensures, n) (s .pre .0 .starts (l .e) (c .before .before .before .loop-test .taken)), rw (c .before .times-of .ensures) (fanin-few (s .pre .0) (l .e) (c .before .before .before .loop-test .taken) n), hint-at _ _ _ _ _ _ (c .before .before .before .loop-test .taken) n (c .before .times-of .ensures) (l .inv .1))
 
 mul-hints : tie.Need-mul-hints Inv-loop μ-loop
 mul-hints c = omega (arith, c .before .before .before .before .before .before .before .before .before .before .before .pre .0 .entries-most)
@@ -60,7 +58,7 @@ mul-fanins : tie.Need-mul-fanins Inv-loop μ-loop
 mul-fanins c = search needs
 
 slice-write-fanins : tie.Need-slice-write-fanins Inv-loop μ-loop
-slice-write-fanins c = search needs
+slice-write-fanins c = omega (arith, c .before .before .before .before .before .before .before .before .before .before .before .pre .1 .0, c .before .before .before .before .before .loop .inv .2 .same, c .before .before .before .before .loop-test .taken)
 
 add-e : tie.Need-add-e Inv-loop μ-loop
 add-e c = search needs
@@ -71,11 +69,13 @@ loop-less c = search needs
 loop-again : tie.Need-loop-again Inv-loop μ-loop
 loop-again c =
     let l = c .before .before .before .before .before .loop in
-    let s = c .before .before .before .before .before .before .before .before .before .before .before in (
+    let s = c .before .before .before .before .before .before .before .before .before .before .before in
+    let h = c .before .before .before .before .loop-test .taken in
+    let n = c .before .before .before .fanin-at .ensures in
+    let fanin = c .before .before .times-of .ensures in (
       simp length-set (l .inv .0),
-      simp length-set (l .inv .1),
-      below-set (l .inv .2) (l .e) (omega (arith, s .pre .0 .entries-most, s .pre .1 .1, l .inv .0)) (found-at _ _ _ _ _ _ (c .before .before .before .before .loop-test .taken) (c .before .before .before .fanin-at .ensures) (c .before .before .times-of .ensures) (s .args .time .0) (c .last-frame .ensures)),
-      row-on (spans (now (s .args .file)) (s .args .gate .list) (s .args .gate .entries) (now (s .args .directory)) (now (s .args .times))) (s .args .time .0) (s .args .at) (l .e) (l .fanins) (l .inv .3) (next-at _ _ _ _ _ _ (c .before .before .before .before .loop-test .taken) (c .before .before .before .fanin-at .ensures) (c .before .before .times-of .ensures)) (c .last-frame .ensures),
+      below-set (l .inv .1) (l .e) (omega (arith, s .pre .0 .entries-most, s .pre .1 .1, l .inv .0)) (found-at _ _ _ _ _ _ h n fanin (s .args .time .0) (c .last-frame .ensures)),
+      more (l .inv .2) (entry-there _ _ _ _ _ _ h n fanin (s .args .time .0)) (entry-at _ _ _ _ _ _ h n fanin (s .args .time .0) (c .last-frame .ensures)),
     )
 
 same-length : tie.Need-same-length Inv-loop μ-loop
@@ -85,7 +85,7 @@ same-length-2 : tie.Need-same-length-2 Inv-loop μ-loop
 same-length-2 c = search needs
 
 returns : tie.Need-returns Inv-loop μ-loop
-returns c = record { is = row-end _ _ _ _ _ (c .before .loop .inv .3) (spans-end _ _ _ _ _ _ (c .loop-test .left)); below = c .before .loop .inv .2 }
+returns c = record { is = all (c .before .loop .inv .2) (entries-end _ _ _ _ _ _ _ (c .loop-test .left)); below = c .before .loop .inv .1 }
 
 pub index-row-spec : {M : Type 1} → statement M
 index-row-spec =

@@ -1,27 +1,27 @@
 -- `inertial_row` meets its contract: the indices from frame k on are still to be stored.
 -- Assumes nothing.
 use Prim.Native.Nat.{_+_, _-_}
-use mathlib.Core.Path.{_≡_, refl}
-use lib.ListN.{length, getD, drop, length-set}
-use lib.Seq.{sets}
+use mathlib.Core.Path.{_≡_}
+use lib.ListN.{length, getD, drop}
 use native.Mathlib.Omega.{arith}
-use native.Mathlib.Nat.{add-zero}
 use denote.Ref.{now}
 use Rattle.lists.specs.Front.{leading}
+use Rattle.lists.proofs.Storing.{Left, none, more, all}
 use Rattle.method.specs.Indices.{inertialIndices}
-use Rattle.planner.proofs.Indexing.{later-few, inertial-on, inertial-end}
+use Rattle.method.proofs.Planned.{inertial-length}
+use Rattle.planner.proofs.Indexing.{later-few, inertial-at}
 use borrow.Author.Needs.{needs}
 use Rattle.planner.proofs.indices.inertial_row.Statement.{statement}
 use Rattle.planner.proofs.indices.inertial_row.Tie as tie
 
 abbrev Inv-loop : tie.InvT-loop
-Inv-loop own reach inertial₀ first k₀ inertial k = (length inertial ≡ length inertial₀) × (sets inertial₀ first (inertialIndices reach own) ≡ sets inertial (first + k) (inertialIndices reach (drop k own)))
+Inv-loop own reach inertial₀ first k₀ inertial k = Left inertial₀ first (inertialIndices reach own) inertial k
 
 abbrev μ-loop : tie.MeasureT-loop
 μ-loop own reach inertial₀ first k₀ inertial k = length own - k
 
 loop-holds : tie.Need-loop-holds Inv-loop μ-loop
-loop-holds c = (refl, rw add-zero)
+loop-holds c = none _ _ _
 
 add-first-above : tie.Need-add-first-above Inv-loop μ-loop
 add-first-above c = search needs
@@ -66,14 +66,15 @@ loop-again : tie.Need-loop-again Inv-loop μ-loop
 loop-again c =
     let s = c .before .before .before .before .before .before in
     let l = c .before .before .before .loop in
-    let q : c .first-above .result - (l .k + 1) ≡ leading (getD (now (s .args .own)) (l .k) 0 + s .args .reach) (drop (l .k + 1) (now (s .args .own))) = omega arith in
-    (simp length-set (l .inv .0), inertial-on _ _ _ _ _ (l .inv .1) (s .pre .0 .starts) (c .before .before .loop-test .taken) q)
+    let own = now (s .args .own) in
+    let q : c .first-above .result - (l .k + 1) ≡ leading (getD own (l .k) 0 + s .args .reach) (drop (l .k + 1) own) = omega arith in
+    more (l .inv) (rw (inertial-length (s .args .reach) own) (c .before .before .loop-test .taken)) (inertial-at (s .args .reach) own (s .pre .0 .starts) (l .k) (c .before .before .loop-test .taken) q)
 
 same-length : tie.Need-same-length Inv-loop μ-loop
 same-length c = search needs
 
 returns : tie.Need-returns Inv-loop μ-loop
-returns c = inertial-end _ _ _ _ _ (c .before .loop .inv .1) (c .loop-test .left)
+returns c = let s = c .before .before .before .before in all (c .before .loop .inv) (rw (inertial-length (s .args .reach) (now (s .args .own))) (c .loop-test .left))
 
 pub inertial-row-spec : {M : Type 1} → statement M
 inertial-row-spec =
