@@ -5,7 +5,7 @@ use mathlib.Core.Path.{_≡_, refl, sym, ap, ap₂, _∙_}
 use mathlib.Core.Bool.{Bool, true, _&&_, and-true, and-assoc}
 use mathlib.Core.List.{List, [], _∷_, _++_, map}
 use native.Mathlib.Omega.{arith}
-use native.Mathlib.Nat.{add-zero}
+use native.Mathlib.Nat.{add-zero, zero-add, suc-add}
 use native.Mathlib.Numerals.{add-one}
 use lib.ListN.{length, getD}
 use Rattle.lists.specs.Tables.{tabulateFrom, tabulate, every}
@@ -51,6 +51,18 @@ module _ {A : Type 0} where
 
   pub tabulate-snoc : (n : ℕ) (f : ℕ → A) → tabulate (suc n) f ≡ tabulate n f ++ (f n ∷ [])
   tabulate-snoc n f = from-snoc n 0 f ∙ ap (λ (m : ℕ). tabulate n f ++ (f m ∷ [])) (let q : 0 + n ≡ n = omega arith in q)
+
+  pub from-append : (n m j : ℕ) (f : ℕ → A) → tabulateFrom (n + m) j f ≡ tabulateFrom n j f ++ tabulateFrom m (j + n) f
+  unfolding tabulateFrom
+  from-append zero m j f = rw (zero-add m, add-zero j)
+  from-append (suc n) m j f = rw (suc-add n m) (ap (λ (l : List A). f j ∷ l) (from-append n m (suc j) f ∙ rw (let q : suc j + n ≡ j + suc n = omega arith in q)))
+
+  -- place m stands behind the m places before it
+  pub tabulate-split : (n m : ℕ) (f : ℕ → A) → m < n → tabulate n f ≡ tabulate m f ++ (f m ∷ tabulateFrom (n - (m + 1)) (m + 1) f)
+  tabulate-split n m f h =
+      ap (λ (k : ℕ). tabulate k f) (let q : n ≡ m + (n - m) = omega arith in q)
+      ∙ from-append m (n - m) 0 f
+      ∙ rw (zero-add m, from-step n m f h)
 
 -- a test that every place of a table passes
 module _ {A : Type 0} (p : A → Bool) (f : ℕ → A) where

@@ -18,8 +18,7 @@ use Rattle.method.specs.Words.{lanes, lane}
 use Rattle.method.specs.Packed.{laneOf, packedWord, packedValues}
 use Rattle.method.specs.Agreement.{potential, changedTimes}
 use Rattle.method.specs.Lanes.{laneLevel, laneCount, AgreeIn, Lanes}
-use Rattle.method.proofs.Bits.{lane-ext, pack-lane}
-use Rattle.method.proofs.WordGates.{getD-lane}
+use Rattle.method.proofs.Bits.{lane-ext, pack-lane, getD-lane}
 use Rattle.method.proofs.Tracing.{value-each, same-traces}
 use Rattle.method.proofs.Agreement.{agreement}
 

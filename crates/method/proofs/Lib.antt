@@ -12,7 +12,5 @@ pub mod Counting
 pub mod Agreement
 pub mod Netwise
 pub mod Bits
-pub mod WordGates
-pub mod WordTraces
 pub mod Lanes
 pub mod Bench

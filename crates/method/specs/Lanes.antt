@@ -1,6 +1,5 @@
 -- In every lane the packed values are those of that lane's own run, whatever the other lanes hold.
--- `in-lanes` in `proofs/Lanes` proves it. That a run on words, 64 lanes at once, gives these packed values is `words-packed`
--- in `proofs/WordTraces`.
+-- `in-lanes` in `proofs/Lanes` proves it.
 use Prim.Native.Nat.{ℕ, _<_, _≤_, _^_}
 use mathlib.Core.Path.{_≡_}
 use mathlib.Core.Bool.{Bool, true}

@@ -28,6 +28,7 @@ use Rattle.planner.specs.Layout.{allTimes, laid}
 use Rattle.planner.specs.Questions.{areasSuit, fits, ownQuestions, questions}
 use Rattle.planner.specs.Plan.{totalsOf, leftBy, outcome, planOf, onPaper}
 use Rattle.planner.specs.Steps.{framesOf, Given, Reached, Filled}
+use Rattle.planner.proofs.Laying.{laid-kept}
 use Rattle.planner.proofs.Prefix.{frames-all}
 use Rattle.planner.proofs.Fitting.{fits-total}
 use Rattle.planner.proofs.Accepted.{inputs-are, gates-are, few, nets-count, nets-sized}
@@ -70,7 +71,7 @@ module _ (file : List ℕ) {gates : ℕ} (all : gates ≡ gatesOf file) {a′ : 
 
 -- ---- question 10 gives room for every plan that fits
 
-suited : (a : Areas) → areasSuit a ≡ true → (length (a .directory) ≡ directoryLength) × (length (a .times) ≡ timesLength) × (length (a .inertial) ≡ timesLength) × (length (a .fanins) ≡ faninsLength)
+pub suited : (a : Areas) → areasSuit a ≡ true → (length (a .directory) ≡ directoryLength) × (length (a .times) ≡ timesLength) × (length (a .inertial) ≡ timesLength) × (length (a .fanins) ≡ faninsLength)
 unfolding areasSuit
 suited a e =
     let e2 = and-right (eqb (length (a .directory)) directoryLength) _ e in
@@ -96,6 +97,15 @@ given-all file a e y =
             fanins = omega (arith, nets-sized file e j h .wide);
           };
     }
+
+-- so the areas that hold the plan of an accepted file hold it at their own lengths
+pub plan-kept : (file : List ℕ) (a : Areas) {a′ : Areas} → reader.readOf file ≡ accepted (record { inputs = inputsOf file; gates = gatesOf file }) → areasSuit a ≡ true → fits (frames (circuitOf file)) ≡ true
+    → a′ ≡ laid (frames (circuitOf file)) a → a′ ≡ laid (frames (circuitOf file)) a′
+plan-kept file a e y fit is =
+    let all = frames-all (circuitOf file) (gatesOf file) (sym (gates-length file)) in
+    let room = given-all file a e y .room (gatesOf file) (omega arith) (rw all fit) in
+    let even = nets-sized file e (gatesOf file) (omega arith) .even in
+    laid-kept (frames (circuitOf file)) is (rw all at room) (rw all at even)
 
 -- ---- the ladder
 

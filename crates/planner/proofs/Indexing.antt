@@ -21,7 +21,8 @@ use Rattle.method.specs.Frames.{faninRow}
 use Rattle.method.proofs.Rising.{Rise, Starts, test-starts, starts-drop}
 use Rattle.method.proofs.Lasting.{leading-all, last-leading, last-mono, index-last}
 use Rattle.circuit.specs.File.{faninAt}
-use Rattle.planner.specs.Steps.{Below, span, spans}
+use Rattle.planner.specs.Layout.{partOf}
+use Rattle.planner.specs.Steps.{Below, spans}
 use Rattle.planner.proofs.Spans.{spans-length, spans-at, spans-next}
 
 -- ---- a gate's own times rise
@@ -65,7 +66,7 @@ found ts from time e l {r} q =
     omega arith
 
 -- fan-in e of the list is net n, and these are its times
-module _ (file : List ℕ) (list entries : ℕ) (d t : List ℕ) (e : ℕ) (h : e < entries) {n : ℕ} (q : n ≡ faninAt file list e) {s : List ℕ} (p : s ≡ span d t n) where
+module _ (file : List ℕ) (list entries : ℕ) (d t : List ℕ) (e : ℕ) (h : e < entries) {n : ℕ} (q : n ≡ faninAt file list e) {s : List ℕ} (p : s ≡ partOf d t n) where
   times-at : s ≡ getD (spans file list entries d t) e []
   times-at = p ∙ rw q (sym (spans-at file list entries d t e h))
 

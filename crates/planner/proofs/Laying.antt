@@ -4,20 +4,20 @@ use Prim.Native.Nat.{ℕ, zero, suc, _+_, _-_, _*_, _≤_, _<_}
 use mathlib.Core.Path.{_≡_, refl, sym, ap, ap₂, _∙_}
 use mathlib.Core.List.{List, [], _∷_, _++_, flatMap, flatten, append-assoc}
 use native.Mathlib.Omega.{arith}
-use native.Mathlib.Nat.{add-zero}
+use native.Mathlib.Nat.{add-zero, zero-add}
 use native.Mathlib.Numerals.{add-one}
 use lib.ListN.{length, getD, take, drop, set, replicate, length-append}
-use lib.Seq.{sets, take-append-seam, drop-append-seam}
+use lib.Seq.{sets}
 use Rattle.lists.specs.Tables.{tabulateFrom}
 use Rattle.lists.specs.Areas.{padded}
 use Rattle.lists.proofs.Tabled.{from-length, tabulate-snoc}
 use Rattle.lists.proofs.Zeros.{zeros-at}
-use Rattle.lists.proofs.Flat.{flat-snoc}
-use Rattle.lists.proofs.Padding.{pad-more}
+use Rattle.lists.proofs.Flat.{flat-snoc, flat-split, flat-even, seam-part, seam-at, seam-room}
+use Rattle.lists.proofs.Padding.{pad-length, pad-more}
 use Rattle.method.specs.Frames.{Frames, inputFrames, noFrames}
 use Rattle.planner.specs.Areas.{Areas, areas}
-use Rattle.planner.specs.Layout.{allTimes, allInertial, allFanins, pairs, laid}
-use Rattle.planner.specs.Steps.{span, inputsOnly, Room, Inputs}
+use Rattle.planner.specs.Layout.{allTimes, allInertial, allFanins, pairs, laid, partOf}
+use Rattle.planner.specs.Steps.{inputsOnly, Room, Inputs}
 
 pub pair-stored : (d : List ℕ) (net first count : ℕ) → set (set d (2 * net) first) (2 * net + 1) count ≡ sets d (2 * net) (first ∷ count ∷ [])
 pair-stored d net first count = rw (add-one (2 * net))
@@ -47,43 +47,76 @@ module _ (fs : List Frames) {a : Areas} (is : a ≡ laid fs a) where
   unfolding laid
   fanins-are = ap (λ (x : Areas). x .fanins) is
 
--- ---- the times of net n, read by its pair
+-- ---- net n, read by its pair
 
+pairs-first : (at : ℕ) (fs : List Frames) (z : List ℕ) (n : ℕ) → n < length fs → getD (pairs at fs ++ z) (2 * n) 0 ≡ at + length (allTimes (take n fs))
+unfolding pairs flatMap
+pairs-first at [] z n h = absurd (omega arith)
+pairs-first at (f ∷ fs) z zero h = sym (add-zero at)
+pairs-first at (f ∷ fs) z (suc n) h =
+    rw (let q : 2 * suc n ≡ suc (suc (2 * n)) = omega arith in q)
+    (omega (arith, pairs-first (at + length (f .times)) fs z n (omega arith), length-append (f .times) (allTimes (take n fs))))
+
+pairs-count : (at : ℕ) (fs : List Frames) (z : List ℕ) (n : ℕ) → n < length fs → getD (pairs at fs ++ z) (2 * n + 1) 0 ≡ length (getD fs n noFrames .times)
+unfolding pairs
+pairs-count at [] z n h = absurd (omega arith)
+pairs-count at (f ∷ fs) z zero h = refl
+pairs-count at (f ∷ fs) z (suc n) h = rw (let q : 2 * suc n + 1 ≡ suc (suc (2 * n + 1)) = omega arith in q) (pairs-count (at + length (f .times)) fs z n (omega arith))
+
+module _ (fs : List Frames) {a : Areas} (is : a ≡ laid fs a) (n : ℕ) (h : n < length fs) where
+  pub pair-first : getD (a .directory) (2 * n) 0 ≡ length (allTimes (take n fs))
+  unfolding padded
+  pair-first = rw (directory-is fs is) (pairs-first 0 fs (replicate (length (a .directory) - length (pairs 0 fs)) 0) n h ∙ zero-add (length (allTimes (take n fs))))
+
+  pub pair-count : getD (a .directory) (2 * n + 1) 0 ≡ length (getD fs n noFrames .times)
+  unfolding padded
+  pair-count = rw (directory-is fs is) (pairs-count 0 fs (replicate (length (a .directory) - length (pairs 0 fs)) 0) n h)
+
+  -- its part of an area, and where its frames end
+  pub part-at : (pre x rest : List ℕ) {area : List ℕ} → area ≡ pre ++ (x ++ rest) → length pre ≡ length (allTimes (take n fs)) → length x ≡ length (getD fs n noFrames .times) → partOf (a .directory) area n ≡ x
+  unfolding partOf
+  part-at pre x rest {area} e p q = rw (pair-first, pair-count, ← p, ← q) (seam-part pre x rest e)
+
+  -- it lies behind what the nets before it give
+  behind : (f : Frames → List ℕ) (size : ℕ) {area : List ℕ} → area ≡ padded size (flatMap f fs)
+      → area ≡ flatMap f (take n fs) ++ (f (getD fs n noFrames) ++ (flatMap f (drop (suc n) fs) ++ replicate (size - length (flatMap f fs)) 0))
+  unfolding padded
+  behind f size {area} e =
+      let z : List ℕ = replicate (size - length (flatMap f fs)) 0 in
+      e ∙ ap (λ (l : List ℕ). l ++ z) (flat-split f fs n noFrames h)
+      ∙ append-assoc (flatMap f (take n fs)) (f (getD fs n noFrames) ++ flatMap f (drop (suc n) fs)) z
+      ∙ ap (λ (l : List ℕ). flatMap f (take n fs) ++ l) (append-assoc (f (getD fs n noFrames)) (flatMap f (drop (suc n) fs)) z)
+
+  pub times-part : partOf (a .directory) (a .times) n ≡ getD fs n noFrames .times
+  times-part = part-at (allTimes (take n fs)) (getD fs n noFrames .times) _ (behind (λ (f : Frames). f .times) (length (a .times)) (times-are fs is)) refl refl
+
+  pub inertial-part : ((m : ℕ) → m < length fs → length (getD fs m noFrames .inertial) ≡ length (getD fs m noFrames .times)) → partOf (a .directory) (a .inertial) n ≡ getD fs n noFrames .inertial
+  inertial-part even =
+      part-at (allInertial (take n fs)) (getD fs n noFrames .inertial) _ (behind (λ (f : Frames). f .inertial) (length (a .inertial)) (inertial-is fs is)) (flat-even (λ (f : Frames). f .inertial) (λ (f : Frames). f .times) noFrames fs even n) (even n h)
+
+  pub fanin-at : (i : ℕ) → i < length (flatten (getD fs n noFrames .rows)) → getD (a .fanins) (length (allFanins (take n fs)) + i) 0 ≡ getD (flatten (getD fs n noFrames .rows)) i 0
+  fanin-at i l = seam-at (allFanins (take n fs)) (flatten (getD fs n noFrames .rows)) _ (behind (λ (f : Frames). flatten (f .rows)) (length (a .fanins)) (fanins-are fs is)) i 0 l
+
+-- the frames of net n end where those of the next begin
+pub frames-end : (fs : List Frames) (n : ℕ) → n < length fs → length (allTimes (take n fs)) + length (getD fs n noFrames .times) ≤ length (allTimes fs)
+frames-end fs n h = seam-room (allTimes (take n fs)) (getD fs n noFrames .times) (allTimes (drop (suc n) fs)) (flat-split (λ (f : Frames). f .times) fs n noFrames h)
+
+pub fanins-end : (fs : List Frames) (n : ℕ) → n < length fs → length (allFanins (take n fs)) + length (flatten (getD fs n noFrames .rows)) ≤ length (allFanins fs)
+fanins-end fs n h = seam-room (allFanins (take n fs)) (flatten (getD fs n noFrames .rows)) (allFanins (drop (suc n) fs)) (flat-split (λ (f : Frames). flatten (f .rows)) fs n noFrames h)
+
+-- the times of net n, as the areas have them
 pub record Spot (d t : List ℕ) (n end : ℕ) (x : List ℕ) : Type 0 where
   pub size : getD d (2 * n + 1) 0 ≡ length x
   pub ends : getD d (2 * n) 0 + getD d (2 * n + 1) 0 ≤ end
-  pub times : span d t n ≡ x
+  pub times : partOf d t n ≡ x
 
-seam : (pre x rest zt : List ℕ) → take (length x) (drop (length pre) (pre ++ ((x ++ rest) ++ zt))) ≡ x
-seam pre x rest zt = rw (drop-append-seam pre ((x ++ rest) ++ zt), append-assoc x rest zt) (take-append-seam x (rest ++ zt))
-
-two-more : (a b : ℕ) (d t : List ℕ) (n end : ℕ) (x : List ℕ) → Spot d t n end x → Spot (a ∷ b ∷ d) t (suc n) end x
-unfolding span
-two-more a b d t n end x s =
-    let q : 2 * suc n ≡ suc (suc (2 * n)) = omega arith in
-    let q1 : 2 * suc n + 1 ≡ suc (suc (2 * n + 1)) = omega arith in
-    record { size = rw q1 (s .size); ends = rw (q1, q) (s .ends); times = rw (q1, q) (s .times) }
-
-spot : (pre : List ℕ) (fs : List Frames) (zd zt : List ℕ) (n : ℕ) → n < length fs
-    → Spot (pairs (length pre) fs ++ zd) (pre ++ (allTimes fs ++ zt)) n (length pre + length (allTimes fs)) (getD fs n noFrames .times)
-unfolding pairs flatMap span
-spot pre [] zd zt n h = absurd (omega arith)
-spot pre (f ∷ fs) zd zt zero h =
-    record { size = refl; ends = omega (arith, length-append (f .times) (allTimes fs)); times = seam pre (f .times) (allTimes fs) zt }
-spot pre (f ∷ fs) zd zt (suc n) h =
-    let s = spot (pre ++ f .times) fs zd zt n (omega arith) in
-    let e : length (pre ++ f .times) ≡ length pre + length (f .times) = length-append pre (f .times) in
-    let t : (pre ++ f .times) ++ (allTimes fs ++ zt) ≡ pre ++ ((f .times ++ allTimes fs) ++ zt) =
-    append-assoc pre (f .times) (allTimes fs ++ zt) ∙ ap (λ (l : List ℕ). pre ++ l) (sym (append-assoc (f .times) (allTimes fs) zt)) in
-    let u : (length pre + length (f .times)) + length (allTimes fs) ≡ length pre + length (f .times ++ allTimes fs) = omega (arith, length-append (f .times) (allTimes fs)) in
-    let s′ : Spot (pairs (length pre + length (f .times)) fs ++ zd) (pre ++ ((f .times ++ allTimes fs) ++ zt)) n (length pre + length (f .times ++ allTimes fs)) (getD fs n noFrames .times) = rw (e, t, u) at s in
-    two-more (length pre) (length (f .times)) (pairs (length pre + length (f .times)) fs ++ zd) (pre ++ ((f .times ++ allTimes fs) ++ zt)) n _ _ s′
-
-pub spot-at : (fs : List Frames) {a : Areas} → a ≡ laid fs a → (n : ℕ) → n < length fs → Spot (a .directory) (a .times) n (0 + length (allTimes fs)) (getD fs n noFrames .times)
-unfolding padded
-spot-at fs {a} is n h =
-    rw (directory-is fs is, times-are fs is)
-    (spot [] fs (replicate (length (a .directory) - length (pairs 0 fs)) 0) (replicate (length (a .times) - length (allTimes fs)) 0) n h)
+pub spot-at : (fs : List Frames) {a : Areas} → a ≡ laid fs a → (n : ℕ) → n < length fs → Spot (a .directory) (a .times) n (length (allTimes fs)) (getD fs n noFrames .times)
+spot-at fs is n h =
+    record {
+      size = pair-count fs is n h;
+      ends = omega (arith, pair-first fs is n h, pair-count fs is n h, frames-end fs n h);
+      times = times-part fs is n h;
+    }
 
 -- no time in the area is later than those of the nets
 low-append : (b : ℕ) (xs ys : List ℕ) → ((k : ℕ) → getD xs k 0 ≤ b) → ((k : ℕ) → getD ys k 0 ≤ b) → (k : ℕ) → getD (xs ++ ys) k 0 ≤ b
@@ -130,6 +163,17 @@ pairs-length : (at : ℕ) (fs : List Frames) → length (pairs at fs) ≡ 2 * le
 unfolding pairs
 pairs-length at [] = refl
 pairs-length at (f ∷ fs) = omega (arith, pairs-length (at + length (f .times)) fs)
+
+-- areas in which there was room for a plan are as long as before, so they hold it at their own lengths
+pub laid-kept : (fs : List Frames) {a a′ : Areas} → a′ ≡ laid fs a → Room fs a → length (allInertial fs) ≡ length (allTimes fs) → a′ ≡ laid fs a′
+unfolding laid
+laid-kept fs {a} {a′} e r even =
+    let d = pad-length (length (a .directory)) (pairs 0 fs) (omega (arith, r .directory, pairs-length 0 fs)) in
+    let t = pad-length (length (a .times)) (allTimes fs) (r .times) in
+    let i = pad-length (length (a .inertial)) (allInertial fs) (omega (arith, r .inertial)) in
+    let f = pad-length (length (a .fanins)) (allFanins fs) (r .fanins) in
+    let again : laid fs a ≡ laid fs (laid fs a) = rw (d, t, i, f) in
+    e ∙ again ∙ ap (laid fs) (sym e)
 
 -- the frames of net x are stored behind those of fs
 pub record Behind (fs : List Frames) (x : Frames) (a a′ : Areas) : Type 0 where

@@ -23,10 +23,10 @@ use Rattle.planner.specs.declared.Totals.{Totals}
 use Rattle.planner.specs.declared.Progress.the-variants as P
 use Rattle.planner.specs.Limits.{mostNetFrames, mostTotalFrames}
 use Rattle.planner.specs.Areas.{Areas}
-use Rattle.planner.specs.Layout.{allTimes, allFanins}
+use Rattle.planner.specs.Layout.{allTimes, allFanins, partOf}
 use Rattle.planner.specs.Questions.{fits}
 use Rattle.planner.specs.Plan.{latest, totalsOf}
-use Rattle.planner.specs.Steps.{Put, span, spans, Fed, Own, firstGates, framesOf, Room, Given, Place, Stored, Going, Reached}
+use Rattle.planner.specs.Steps.{Put, spans, Fed, Own, firstGates, framesOf, Room, Given, Place, Stored, Going, Reached}
 use Rattle.planner.proofs.Inserting.{front}
 use Rattle.planner.proofs.Laying.{Spot, spot-at, low-area, times-snoc, total-more, fanins-more, Behind, laid-snoc}
 use Rattle.planner.proofs.Prefix.{faninTimes, nextFrames, next-times, next-inertial, next-rows, next-even, next-count, frames-early}
@@ -85,7 +85,7 @@ module _ (file : List ℕ) {a : Areas} (given : Given file a) (j : ℕ) (l : j <
   room : Room (framesOf file j) a
   room = given .room j (omega arith) (go .fit)
 
-  at : (n : ℕ) → n < inputsOf file + j → Spot (a .directory) (a .times) n (0 + length (allTimes (framesOf file j))) (getD (framesOf file j) n noFrames .times)
+  at : (n : ℕ) → n < inputsOf file + j → Spot (a .directory) (a .times) n (length (allTimes (framesOf file j))) (getD (framesOf file j) n noFrames .times)
   at n h = spot-at (framesOf file j) (go .is) n (omega (arith, count))
 
   early : (n : ℕ) → n < inputsOf file + j → (k : ℕ) → getD (getD (framesOf file j) n noFrames .times) k 0 ≤ mostTime
@@ -115,7 +115,7 @@ module _ (file : List ℕ) {a : Areas} (given : Given file a) (j : ℕ) (l : j <
 
   -- their spans are the times of their frames
   spans-from : (list n m : ℕ) → ((k : ℕ) → m ≤ k → k < m + n → faninAt file list k < inputsOf file + j)
-      → map (span (a .directory) (a .times)) (tabulateFrom n m (faninAt file list))
+      → map (partOf (a .directory) (a .times)) (tabulateFrom n m (faninAt file list))
       ≡ map (λ (f : Frames). f .times) (map (λ (k : ℕ). getD (framesOf file j) k noFrames) (tabulateFrom n m (faninAt file list)))
   unfolding tabulateFrom
   spans-from list zero m h = refl

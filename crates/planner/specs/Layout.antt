@@ -1,7 +1,7 @@
 -- How the frames of the nets lie in the areas: one net after the other, and the rest of each area 0.
-use Prim.Native.Nat.{ℕ, _+_}
+use Prim.Native.Nat.{ℕ, _+_, _*_}
 use mathlib.Core.List.{List, [], _∷_, flatMap, flatten}
-use lib.ListN.{length}
+use lib.ListN.{length, getD, take, drop}
 use Rattle.lists.specs.Areas.{padded}
 use Rattle.method.specs.Frames.{Frames}
 use Rattle.planner.specs.Areas.{Areas, areas}
@@ -26,3 +26,14 @@ unfoldable pub laid : List Frames → Areas → Areas
 laid fs a =
     areas (padded (length (a .directory)) (pairs 0 fs)) (padded (length (a .times)) (allTimes fs))
     (padded (length (a .inertial)) (allInertial fs)) (padded (length (a .fanins)) (allFanins fs))
+
+-- net n's pair in the directory
+abbrev pub firstFrame : List ℕ → ℕ → ℕ
+firstFrame directory n = getD directory (2 * n) 0
+
+abbrev pub frameCount : List ℕ → ℕ → ℕ
+frameCount directory n = getD directory (2 * n + 1) 0
+
+-- net n's part of an area that has an entry a frame
+unfoldable pub partOf : List ℕ → List ℕ → ℕ → List ℕ
+partOf directory area n = take (frameCount directory n) (drop (firstFrame directory n) area)

@@ -22,7 +22,7 @@ use Rattle.planner.specs.declared.Progress.{Progress}
 use Rattle.planner.specs.declared.Progress.the-variants as P
 use Rattle.planner.specs.Limits.{mostNetFrames, mostTotalFrames}
 use Rattle.planner.specs.Areas.{Areas, allCleared}
-use Rattle.planner.specs.Layout.{allTimes, allFanins, pairs, laid}
+use Rattle.planner.specs.Layout.{allTimes, allFanins, pairs, laid, partOf}
 use Rattle.planner.specs.Questions.{fits}
 use Rattle.planner.specs.Plan.{totalsOf}
 
@@ -47,13 +47,9 @@ pub record Put (row ts : List ℕ) (most r : ℕ) : Type 0 where
 
 -- ---- the nets that are planned already, as the areas have them
 
--- the times of net n
-unfoldable pub span : List ℕ → List ℕ → ℕ → List ℕ
-span d t n = take (getD d (2 * n + 1) 0) (drop (getD d (2 * n) 0) t)
-
 -- the times of the nets in a fan-in list with this many entries, which starts at byte `list`
 abbrev pub spans : List ℕ → ℕ → ℕ → List ℕ → List ℕ → List (List ℕ)
-spans file list entries d t = map (span d t) (tabulate entries (faninAt file list))
+spans file list entries d t = map (partOf d t) (tabulate entries (faninAt file list))
 
 -- a gate within the limits whose fan-ins are all there: each has its pair in the directory and its times in the area, not
 -- too many, from 0 on and rising; no time in the area is late
@@ -65,7 +61,7 @@ pub record Fed (file : List ℕ) (g : GateRecord) (d t : List ℕ) : Type 0 wher
   pub pair : (e : ℕ) → e < g .entries → 2 * faninAt file (g .list) e + 1 < length d
   pub inside : (e : ℕ) → e < g .entries → getD d (2 * faninAt file (g .list) e) 0 + getD d (2 * faninAt file (g .list) e + 1) 0 ≤ length t
   pub few : (e : ℕ) → e < g .entries → getD d (2 * faninAt file (g .list) e + 1) 0 ≤ mostNetFrames
-  pub starts : (e : ℕ) → e < g .entries → startAndRise (span d t (faninAt file (g .list) e)) ≡ true
+  pub starts : (e : ℕ) → e < g .entries → startAndRise (partOf d t (faninAt file (g .list) e)) ≡ true
   pub early : (i : ℕ) → getD t i 0 ≤ mostTime
 
 -- each hint is at most the frame to be found at this time

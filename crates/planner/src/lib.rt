@@ -70,8 +70,8 @@ pub fn plan(
     }
 }
 
-// Question 10.
-fn areas_suit(directory: &[u16], times: &[u16], inertial: &[u16], fanins: &[u16]) -> bool
+// Question 10, of Plan's four areas.
+pub fn areas_suit(directory: &[u16], times: &[u16], inertial: &[u16], fanins: &[u16]) -> bool
     ensures { λ r. ⌜ r ≡ areasSuit (areas (now (directory .entry)) (now (times .entry)) (now (inertial .entry)) (now (fanins .entry))) ⌝ }
 {
     if directory.len() != DIRECTORY_LENGTH {

@@ -9,7 +9,8 @@ ghost use Rattle.method.specs.Kinds.{mostFanins};
 ghost use Rattle.method.specs.Times.{gateTimes, startAndRise};
 ghost use Rattle.circuit.specs.Limits.{mostDelay, mostTime};
 ghost use Rattle.planner.specs.Limits.{mostNetFrames};
-ghost use Rattle.planner.specs.Steps.{Fed, Inserted, Put, into, span, spans};
+ghost use Rattle.planner.specs.Layout.{partOf};
+ghost use Rattle.planner.specs.Steps.{Fed, Inserted, Put, into, spans};
 use circuit::GateRecord;
 use method::Net;
 use method::Time;
@@ -44,7 +45,7 @@ pub(crate) fn gate_times(
 pub(crate) fn times_of<'a>(directory: &[u16], times: &'a [u16], net: Net) -> &'a [u16]
     requires { ⌜ 2 * net .0 + 1 < length (now directory) ⌝ }
     requires { ⌜ getD (now directory) (2 * net .0) 0 + getD (now directory) (2 * net .0 + 1) 0 ≤ length (now times) ⌝ }
-    ensures { λ r. ⌜ now r ≡ span (now (directory .entry)) (now (times .entry)) (net .0) ⌝ }
+    ensures { λ r. ⌜ now r ≡ partOf (now (directory .entry)) (now (times .entry)) (net .0) ⌝ }
 {
     let at = 2 * (net.0 as usize);
     let first = directory[at] as usize;

@@ -1,0 +1,167 @@
+-- What holds of the areas that an accepted run leaves, since they hold the plan and the packed values: `specs/After`, proved.
+-- Assumes nothing.
+use Prim.Native.Nat.{ℕ, suc, _+_, _*_, _≤_, _<_}
+use mathlib.Core.Path.{_≡_, refl, sym, ap, _∙_}
+use mathlib.Core.Logic.{_≢_}
+use mathlib.Core.Bool.{Bool, true, false, cond}
+use mathlib.Core.List.{List, map}
+use native.Mathlib.Omega.{arith}
+use lib.Dec.{eqb}
+use lib.ListN.{length, getD}
+use Rattle.lists.specs.Ladder.{firstNo, accepted}
+use Rattle.lists.proofs.Ladders.{unless-none}
+use Rattle.method.specs.Circuit.{Circuit}
+use Rattle.method.specs.Times.{among, startAndRise}
+use Rattle.method.specs.Frames.{frames, framesAt}
+use Rattle.method.specs.Machine.{machine}
+use Rattle.method.specs.Look.{level, changes}
+use Rattle.method.specs.Words.{lane}
+use Rattle.method.specs.Packed.{laneOf, packedValues}
+use Rattle.method.specs.Agreement.{levelAt, changedTimes}
+use Rattle.method.specs.Lanes.{laneLevel, laneCount, AgreeIn}
+use Rattle.method.proofs.Netwise.{net-by-net}
+use Rattle.method.proofs.Agreement.{agreement}
+use Rattle.method.proofs.Lanes.{in-lanes}
+use Rattle.circuit.specs.File.{circuitOf}
+use Rattle.circuit.proofs.Bounded.{time-small}
+use Rattle.planner.specs.Limits.{mostNetFrames}
+use Rattle.planner.specs.Areas as areas
+use Rattle.planner.specs.Layout.{laid}
+use Rattle.planner.specs.Plan as planner
+use Rattle.planner.proofs.Accepted.{circuit-within}
+use Rattle.planner.proofs.Fitting.{fits-total, fits-net}
+use Rattle.planner.proofs.Laying.{pair-first, pair-count, times-part, frames-end}
+use Rattle.engine.specs.Areas.{Areas, allCleared}
+use Rattle.engine.specs.Values.{netCount}
+use Rattle.engine.specs.Run.{filled, leftBy, runOf}
+use Rattle.engine.specs.Look.{lookQuestions, levelOf, countOf}
+use Rattle.engine.specs.After.{Ran, After, Alike, AfterRun, timesOf, valuesOf, lastTime}
+use Rattle.engine.proofs.Seeing.{all-yes}
+use Rattle.engine.proofs.Accepted.{Held, held, filled-plan}
+use Rattle.engine.proofs.Parts.{nets-count, word-each, words-part}
+
+-- ---- a look at such parts is answered
+
+module _ (times values : List ℕ) (L : ℕ) (same : length times ≡ length values) (some : 1 ≤ length times) (few : length times ≤ mostNetFrames) (rise : startAndRise times ≡ true) (h : L < 64) where
+  no-fault : firstNo (lookQuestions times values L) ≡ 0
+  no-fault = sym (all-yes times values L same (λ z. omega arith) few (sym rise) refl (omega arith))
+
+  level-answered : (t : ℕ) → levelOf times values L t ≡ accepted (level times (map (lane L) values) t)
+  unfolding levelOf
+  level-answered t = unless-none _ _ no-fault
+
+  count-answered : countOf times values L ≡ accepted (changes (map (lane L) values))
+  unfolding countOf
+  count-answered = unless-none _ _ no-fault
+
+-- ---- net n after an accepted run
+
+module _ (file before after : List ℕ) {a : Areas} (b : Held file before after a) (n : ℕ) (h : n < netCount (circuitOf file)) where
+  abbrev c : Circuit
+  c = circuitOf file
+
+  there : n < length (frames c)
+  there = rw (nets-count c) h
+
+  frames-some : 1 ≤ length (framesAt c n .times)
+  frames-some = omega (arith, net-by-net c .0 .index-within 0 n 0)
+
+  frames-few : length (framesAt c n .times) ≤ mostNetFrames
+  frames-few = fits-net (frames c) (b .fit) n
+
+  count-is : getD (a .plan .directory) (2 * n + 1) 0 ≡ length (framesAt c n .times)
+  count-is = pair-count (frames c) (b .plan-is) n there
+
+  times-are : timesOf a n ≡ framesAt c n .times
+  times-are = times-part (frames c) (b .plan-is) n there
+
+  values-are : valuesOf a n ≡ packedValues c before after n
+  values-are = words-part c before after (b .plan-is) n (b .size) h (b .values-are)
+
+  inside : getD (a .plan .directory) (2 * n) 0 + getD (a .plan .directory) (2 * n + 1) 0 ≤ 2048
+  inside = omega (arith, pair-first (frames c) (b .plan-is) n there, count-is, frames-end (frames c) n there, fits-total (frames c) (b .fit))
+
+  module _ (L : ℕ) (l : L < 64) where
+    level-lane : (t : ℕ) → levelOf (timesOf a n) (valuesOf a n) L t ≡ accepted (laneLevel L c before after n t)
+    level-lane t =
+        rw (times-are, values-are)
+        (level-answered (framesAt c n .times) (packedValues c before after n) L (sym (word-each c before after n)) frames-some frames-few (agreement .times-rise c n) l t)
+
+    count-lane : countOf (timesOf a n) (valuesOf a n) L ≡ accepted (laneCount L c before after n)
+    count-lane =
+        rw (times-are, values-are)
+        (count-answered (framesAt c n .times) (packedValues c before after n) L (sym (word-each c before after n)) frames-some frames-few (agreement .times-rise c n) l)
+
+    level-is : (t : ℕ) → levelOf (timesOf a n) (valuesOf a n) L t ≡ accepted (machine c (laneOf L before after) n t)
+    level-is t = level-lane t ∙ ap accepted (in-lanes .level-is-machine c before after L l n t)
+
+    changes-are : countOf (timesOf a n) (valuesOf a n) L ≡ accepted (changedTimes (machine c (laneOf L before after) n) lastTime)
+    changes-are =
+        count-lane
+        ∙ ap accepted (in-lanes .count-is-machine c before after L l n lastTime (λ t e. omega (arith, time-small c (circuit-within file (b .read)) n t h e)))
+
+    -- levels that differ are levels of the lane's own run that differ
+    only-at : (t : ℕ) → levelOf (timesOf a n) (valuesOf a n) L (suc t) ≢ levelOf (timesOf a n) (valuesOf a n) L t → among (suc t) (timesOf a n) ≡ true
+    only-at t d =
+        let s = laneOf L before after in
+        let same : levelAt c s n (suc t) ≡ levelAt c s n t → machine c s n (suc t) ≡ machine c s n t =
+        λ e. sym (agreement .level-is-machine c s n (suc t)) ∙ e ∙ agreement .level-is-machine c s n t in
+        rw times-are (agreement .changes-at-times c s n t (λ e. d (level-is (suc t) ∙ ap accepted (same e) ∙ sym (level-is t))))
+
+after-run : (file before after : List ℕ) (a : Areas) → Ran file before after a → After file before after a
+after-run file before after a r =
+    let b = held file before after r in
+    record {
+      some-frame = λ n h. rw (count-is file before after b n h) (frames-some file before after b n h);
+      few-frames = λ n h. rw (count-is file before after b n h) (frames-few file before after b n h);
+      inside = inside file before after b;
+      level-is-machine = λ n L t h l k. level-is file before after b n h L l t;
+      count-is-machine = λ n L h l. changes-are file before after b n h L l;
+      changes-at-times = λ n L t h l k d. only-at file before after b n h L l t d;
+      times-are-potential = λ n t h. rw (times-are file before after b n h);
+    }
+
+-- ---- two runs
+
+runs-alike : (file before after before′ after′ : List ℕ) (a a′ : Areas) (L : ℕ) → L < 64 → Ran file before after a → Ran file before′ after′ a′
+    → AgreeIn L (circuitOf file .inputs) before before′ → AgreeIn L (circuitOf file .inputs) after after′ → Alike file L a a′
+runs-alike file before after before′ after′ a a′ L l r r′ p q =
+    let b = held file before after r in
+    let b′ = held file before′ after′ r′ in
+    record {
+      same-level = λ n t h k.
+          level-lane file before after b n h L l t
+          ∙ ap accepted (in-lanes .same-level (circuitOf file) before after before′ after′ L l p q n t)
+          ∙ sym (level-lane file before′ after′ b′ n h L l t);
+      same-count = λ n h.
+          count-lane file before after b n h L l
+          ∙ ap accepted (in-lanes .same-count (circuitOf file) before after before′ after′ L l p q n)
+          ∙ sym (count-lane file before′ after′ b′ n h L l);
+    }
+
+-- ---- what the words do not enter
+
+cleared-plan : (a : Areas) → allCleared a .plan ≡ areas.allCleared (a .plan)
+unfolding allCleared
+cleared-plan a = refl
+
+-- the plan areas are left as Plan leaves them
+plan-left : (n : ℕ) (c : Circuit) (before after : List ℕ) (a : Areas) → leftBy n c before after a .plan ≡ planner.leftBy n (frames c) (a .plan)
+unfolding leftBy planner.leftBy
+plan-left n c before after a = go (eqb n 0) (eqb n 13)
+  where
+    go : (none many : Bool) → cond none (filled c before after a) (cond many (allCleared a) a) .plan
+        ≡ cond none (laid (frames c) (a .plan)) (cond many (areas.allCleared (a .plan)) (a .plan))
+    go true many = filled-plan c before after a
+    go false true = cleared-plan a
+    go false false = refl
+
+-- and of the words the questions take the lengths
+words-alike : (file before after before′ after′ : List ℕ) (a : Areas) → length before ≡ length before′ → length after ≡ length after′
+    → (runOf file before after a .answer ≡ runOf file before′ after′ a .answer) × (runOf file before after a .left .plan ≡ runOf file before′ after′ a .left .plan)
+unfolding runOf
+words-alike file before after before′ after′ a p q =
+    (rw (p, q), plan-left _ (circuitOf file) before after a ∙ rw (p, q) (sym (plan-left _ (circuitOf file) before′ after′ a)))
+
+pub after-runs : AfterRun
+after-runs = record { after-run = after-run; runs-alike = runs-alike; words-alike = words-alike }

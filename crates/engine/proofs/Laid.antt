@@ -1,0 +1,98 @@
+-- What Plan answers and leaves once questions 1 to 11 are passed: its own first "no" can only be 13.
+-- Assumes nothing.
+use Prim.Native.Nat.{ℕ, _*_, _≤_}
+use mathlib.Core.Path.{_≡_, sym, ap, _∙_}
+use mathlib.Core.Logic.{inl, inr}
+use mathlib.Core.Bool.{true, false}
+use mathlib.Core.List.{List, [], _∷_}
+use native.Mathlib.Omega.{arith}
+use lib.ListN.{length}
+use Rattle.lists.specs.Ladder.{_orElse_, Question, firstNo, Answer, accepted, refused, unless}
+use Rattle.lists.proofs.Choices.{either}
+use Rattle.lists.proofs.Ladders.{firstNo-append, asked, ask-yes, ask-no, all-asked, accepted-none, refused-some}
+use Rattle.method.specs.Frames.{frames}
+use Rattle.circuit.specs.File.{circuitOf}
+use Rattle.circuit.specs.Questions as reader
+use Rattle.circuit.proofs.Gated.{questions-numbered}
+use Rattle.planner.specs.declared.Totals.{Totals}
+use Rattle.planner.specs.declared.Planning.{Planning}
+use Rattle.planner.specs.declared.Planning.the-variants as Q
+use Rattle.planner.specs.Areas.{Areas, areas, allCleared}
+use Rattle.planner.specs.Layout.{allTimes, laid}
+use Rattle.planner.specs.Questions.{areasSuit, fits, ownQuestions, questions}
+use Rattle.planner.specs.Plan.{totalsOf, leftBy, Outcome, outcome, onPaper, planOf}
+use Rattle.planner.proofs.Accepted.{few}
+use Rattle.planner.proofs.Fitting.{fits-total}
+use Rattle.engine.specs.Areas as engine
+use Rattle.engine.specs.Steps.{Asked, Planned}
+use Rattle.engine.proofs.Asking.{passed}
+
+-- question 13, the last
+abbrev pub lastQuestion : List ℕ → List Question
+lastQuestion file = (fits (frames (circuitOf file)) orElse 13) ∷ []
+
+module _ (file : List ℕ) {a : engine.Areas} {before after : ℕ} (h : Asked file a before after) where
+  -- the inputs' words have room
+  pub words-room : (2 * before ≤ length (a .values)) × (after ≡ before)
+  words-room = let y = passed file h in (omega (arith, few file (h .read) .1, y .before-each, y .values), y .after-each ∙ sym (y .before-each))
+
+  at-last : firstNo (questions file (a .plan)) ≡ firstNo (lastQuestion file)
+  unfolding questions
+  at-last = firstNo-append 9 (reader.questions file) (ownQuestions file (a .plan)) (questions-numbered file) ∙ rw (passed file h .reads) (ask-yes (areasSuit (a .plan)) 10 _ (passed file h .suits))
+
+  module _ {x : Answer Totals} {b : Areas} (e : outcome x b ≡ planOf file (a .plan)) where
+    answer-is : x ≡ unless (firstNo (lastQuestion file)) (totalsOf (frames (circuitOf file)))
+    unfolding planOf
+    answer-is = ap (λ (o : Outcome). o .answer) e ∙ rw at-last
+
+    left-is : b ≡ leftBy (firstNo (lastQuestion file)) (frames (circuitOf file)) (a .plan)
+    unfolding planOf
+    left-is = ap (λ (o : Outcome). o .left) e ∙ rw at-last
+
+  module _ {d t i f : List ℕ} {r : Planning} (e : outcome (onPaper r) (areas d t i f) ≡ planOf file (a .plan)) where
+    pub plan-13 : {n : ℕ} → r ≡ Q.Refused n → (n ≡ 13) × (fits (frames (circuitOf file)) ≡ false) × (areas d t i f ≡ allCleared (a .plan))
+    unfolding onPaper leftBy
+    plan-13 {n} q =
+        let g : unless (firstNo (lastQuestion file)) (totalsOf (frames (circuitOf file))) ≡ refused n = sym (answer-is e) ∙ rw q in
+        let s = refused-some (firstNo (lastQuestion file)) (totalsOf (frames (circuitOf file))) g in
+        elim (either (fits (frames (circuitOf file)))) [
+          | inl y ↦ absurd (let z : firstNo (lastQuestion file) ≡ 0 = ask-yes (fits (frames (circuitOf file))) 13 [] y ∙ all-asked in omega (arith, s .0, s .1))
+          | inr y ↦ (let z : firstNo (lastQuestion file) ≡ 13 = ask-no (fits (frames (circuitOf file))) 13 [] y in (sym (s .0) ∙ z, y, left-is e ∙ rw z))
+        ]
+
+    module _ {totals : Totals} (q : r ≡ Q.Planned totals) where
+      none : (firstNo (lastQuestion file) ≡ 0) × (totalsOf (frames (circuitOf file)) ≡ totals)
+      unfolding onPaper
+      none =
+          let g : unless (firstNo (lastQuestion file)) (totalsOf (frames (circuitOf file))) ≡ accepted totals = sym (answer-is e) ∙ rw q in
+          accepted-none (firstNo (lastQuestion file)) (totalsOf (frames (circuitOf file))) g
+
+      pub plan-fits : fits (frames (circuitOf file)) ≡ true
+      plan-fits = asked (fits (frames (circuitOf file))) 13 [] (λ z. omega arith) (none .0) .0
+
+      pub plan-totals : totals ≡ totalsOf (frames (circuitOf file))
+      plan-totals = sym (none .1)
+
+      pub plan-frames : totals .frames ≡ length (allTimes (frames (circuitOf file)))
+      unfolding totalsOf
+      plan-frames = rw plan-totals
+
+      -- the values have a word for each frame
+      pub plan-room : totals .frames ≤ length (a .values)
+      plan-room = omega (arith, plan-frames, fits-total (frames (circuitOf file)) plan-fits, passed file h .values)
+
+      pub plan-laid : areas d t i f ≡ laid (frames (circuitOf file)) (a .plan)
+      unfolding leftBy
+      plan-laid = left-is e ∙ rw (none .0)
+
+      -- the areas are as long as they were
+      pub planned : length d ≡ length (a .plan .directory) → length t ≡ length (a .plan .times) → length i ≡ length (a .plan .inertial) → length f ≡ length (a .plan .fanins) → Planned file d i f
+      unfolding areasSuit laid
+      planned ld lt li lf =
+          record {
+            read = h .read;
+            times = t;
+            suits = rw (ld, lt, li, lf) (passed file h .suits);
+            fit = plan-fits;
+            is = plan-laid ∙ rw (ld, lt, li, lf);
+          }

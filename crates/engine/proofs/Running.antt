@@ -1,0 +1,115 @@
+-- Run's ladder, and what a run leaves in the areas.
+-- Assumes nothing.
+use Prim.Native.Nat.{ℕ, _+_, _-_, _*_, _≤_}
+use mathlib.Core.Path.{_≡_, refl, sym, ap₂, _∙_}
+use mathlib.Core.Bool.{true, false}
+use mathlib.Core.List.{List, [], _∷_, _++_}
+use native.Mathlib.Omega.{arith}
+use lib.ListN.{length, take, drop}
+use borrow.Author.Tests.{ne-eqb}
+use Rattle.lists.specs.Ladder.{Question, firstNo, unless}
+use Rattle.lists.specs.Areas.{cleared}
+use Rattle.lists.proofs.Ladders.{Numbered, numbered-append, first, first-here, first-most, firstNo-append, ask-yes, ask-no, all-asked, unless-none, unless-some}
+use Rattle.method.specs.Frames.{frames}
+use Rattle.circuit.specs.File.{inputsOf, gatesOf, circuitOf}
+use Rattle.circuit.specs.Questions as reader
+use Rattle.circuit.proofs.Gated.{questions-numbered}
+use Rattle.planner.specs.declared.Totals.{Totals}
+use Rattle.planner.specs.declared.Planning.{Planning}
+use Rattle.planner.specs.declared.Planning.the-variants as Q
+use Rattle.planner.specs.Questions.{fits}
+use Rattle.planner.specs.Plan.{totalsOf, onPaper, planOf}
+use Rattle.planner.specs.Plan as plan
+use Rattle.planner.specs.Areas as planner
+use Rattle.engine.specs.Areas.{Areas, areas, allCleared}
+use Rattle.engine.specs.Questions.{ownQuestions, firstQuestions, questions}
+use Rattle.engine.specs.Run.{filled, leftBy, outcome, runOf}
+use Rattle.engine.specs.Steps.{Asked, Planned, Holds, inputWords}
+use Rattle.engine.proofs.Asking.{passed}
+use Rattle.engine.proofs.Laid.{lastQuestion, plan-13, plan-fits, plan-totals, plan-frames, plan-room, plan-laid}
+use Rattle.engine.proofs.Valued.{holds-inputs, values-are, rest-cleared}
+
+-- ---- the ladder
+
+-- numbers up to the least are up to the most
+numbered-more : (least most : ℕ) → least ≤ most → (qs : List Question) → Numbered least qs → Numbered most qs
+numbered-more least most h [] n = tt
+numbered-more least most h (q ∷ qs) n = (n .0, omega (arith, n .1), numbered-more least most h qs (n .2))
+
+module _ (file : List ℕ) (a : Areas) (before after : ℕ) where
+  first-numbered : Numbered 11 (firstQuestions file a before after)
+  unfolding firstQuestions
+  first-numbered =
+      numbered-append 11 (reader.questions file) (ownQuestions (inputsOf file) a before after)
+      (numbered-more 9 11 (omega arith) (reader.questions file) (questions-numbered file))
+      (omega arith, omega arith, (omega arith, omega arith, tt))
+
+  joined : firstNo (questions file a before after) ≡ first (firstNo (firstQuestions file a before after)) (firstNo (lastQuestion file))
+  unfolding questions
+  joined = firstNo-append 11 (firstQuestions file a before after) (lastQuestion file) first-numbered
+
+-- what the first "no" leaves
+module _ (file before after : List ℕ) (a : Areas) where
+  left-none : leftBy 0 (circuitOf file) before after a ≡ filled (circuitOf file) before after a
+  unfolding leftBy
+  left-none = refl
+
+  left-13 : leftBy 13 (circuitOf file) before after a ≡ allCleared a
+  unfolding leftBy
+  left-13 = refl
+
+  left-other : (n : ℕ) → (n ≡ 0 → ⊥) → n ≤ 11 → leftBy n (circuitOf file) before after a ≡ a
+  unfolding leftBy
+  left-other n h k = rw (ne-eqb n 0 h, ne-eqb n 13 (λ e. omega arith))
+
+  ran : {n : ℕ} → firstNo (questions file a (length before) (length after)) ≡ n
+      → runOf file before after a ≡ outcome (unless n (totalsOf (frames (circuitOf file)))) (leftBy n (circuitOf file) before after a)
+  unfolding runOf
+  ran e = rw e
+
+  refusal : {n : ℕ} → firstNo (questions file a (length before) (length after)) ≡ n → (n ≡ 0 → ⊥) → {b : Areas} → b ≡ leftBy n (circuitOf file) before after a
+      → outcome (onPaper (Q.Refused n)) b ≡ runOf file before after a
+  unfolding onPaper
+  refusal {n} e h l = sym (ran e ∙ rw (unless-some n (totalsOf (frames (circuitOf file))) h, ← l))
+
+  -- 1 to 11: nothing is written
+  pub run-no : {n : ℕ} → n ≡ firstNo (firstQuestions file a (length before) (length after)) → (n ≡ 0 → ⊥) → outcome (onPaper (Q.Refused n)) a ≡ runOf file before after a
+  run-no {n} e h =
+      let most = first-most 11 (firstQuestions file a (length before) (length after)) (first-numbered file a (length before) (length after)) in
+      refusal (joined file a (length before) (length after) ∙ rw (← e) (first-here n _ h)) h (sym (left-other n h (omega (arith, most, e))))
+
+  -- 13
+  module _ (h : Asked file a (length before) (length after)) where
+    at-last : firstNo (questions file a (length before) (length after)) ≡ firstNo (lastQuestion file)
+    at-last = joined file a (length before) (length after) ∙ rw (h .none)
+
+    run-13 : fits (frames (circuitOf file)) ≡ false → outcome (onPaper (Q.Refused 13)) (allCleared a) ≡ runOf file before after a
+    run-13 n = refusal (at-last ∙ ask-no (fits (frames (circuitOf file))) 13 [] n) (λ z. omega arith) (sym left-13)
+
+    run-yes : fits (frames (circuitOf file)) ≡ true → outcome (onPaper (Q.Planned (totalsOf (frames (circuitOf file))))) (filled (circuitOf file) before after a) ≡ runOf file before after a
+    unfolding onPaper
+    run-yes y =
+        let m : firstNo (questions file a (length before) (length after)) ≡ 0 = at-last ∙ ask-yes (fits (frames (circuitOf file))) 13 [] y ∙ all-asked in
+        sym (ran m ∙ rw (unless-none 0 (totalsOf (frames (circuitOf file))) refl, left-none))
+
+-- ---- planned, and then evaluated or cleared
+
+module _ (file before after : List ℕ) {d t i f v : List ℕ} (h : Asked file (areas d t i f v) (length before) (length after)) {d′ t′ i′ f′ : List ℕ} {r : Planning}
+    (e : plan.outcome (onPaper r) (planner.areas d′ t′ i′ f′) ≡ planOf file (planner.areas d t i f)) where
+  pub simulate-13 : {n : ℕ} → r ≡ Q.Refused n → {v′ : List ℕ} → v′ ≡ cleared v → outcome (onPaper (Q.Refused n)) (areas d′ t′ i′ f′ v′) ≡ runOf file before after (areas d t i f v)
+  unfolding allCleared
+  simulate-13 {n} q {v′} z =
+      let s = plan-13 file h e q in
+      rw (s .0) (ap₂ (λ (x : planner.Areas) (y : List ℕ). outcome (onPaper (Q.Refused 13)) (record { plan = x; values = y })) (s .2) z ∙ run-13 file before after (areas d t i f v) h (s .1))
+
+  module _ {totals : Totals} (q : r ≡ Q.Planned totals) {inputs gates : ℕ} (ni : inputs ≡ inputsOf file) (ng : gates ≡ gatesOf file) where
+    pub simulate-yes : {v1 v2 ys : List ℕ} → take (2 * length before) v1 ≡ inputWords before after (length before)
+        → ((b a : List ℕ) → Holds file b a inputs v1 → Holds file b a (inputs + gates) v2)
+        → length v2 ≡ length v → ys ≡ cleared (take (length v2 - totals .frames) (drop (totals .frames) v2))
+        → outcome (onPaper (Q.Planned totals)) (areas d′ t′ i′ f′ (take (totals .frames) v2 ++ (ys ++ drop (length v2 - totals .frames) (drop (totals .frames) v2)))) ≡ runOf file before after (areas d t i f v)
+    unfolding filled
+    simulate-yes {v1} {v2} {ys} w g l z =
+        let all = values-are file before after ni ng (g before after (holds-inputs file before after ni (passed file h .before-each) w)) in
+        let values = rest-cleared v2 (totals .frames) l (plan-room file h e q) (rw (← plan-frames file h e q) at all) z in
+        ap₂ (λ (x : planner.Areas) (y : List ℕ). outcome (onPaper (Q.Planned totals)) (record { plan = x; values = y })) (plan-laid file h e q) values
+        ∙ rw (plan-totals file h e q) (run-yes file before after (areas d t i f v) h (plan-fits file h e q))

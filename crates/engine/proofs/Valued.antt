@@ -1,0 +1,85 @@
+-- The values area: the words of the inputs, those of all nets, and zeros behind them.
+-- Assumes nothing.
+use Prim.Native.Nat.{ℕ, zero, suc, _+_, _-_, _*_, _≤_, _<_}
+use mathlib.Core.Path.{_≡_, refl, sym, ap, ap₂, _∙_}
+use mathlib.Core.List.{List, [], _∷_, _++_, flatten, flatMap, append-nil}
+use native.Mathlib.Omega.{arith}
+use lib.ListN.{length, getD, take, drop, replicate, length-drop, drop-of-length-le}
+use lib.Seq.{take-suc, take-length, length-take-le}
+use borrow.Rule.Slice.PartMut.{mid-len}
+use Rattle.lists.specs.Areas.{cleared, padded}
+use Rattle.lists.specs.Tables.{tabulateFrom, tabulate}
+use Rattle.lists.proofs.Tabled.{from-ext}
+use Rattle.method.specs.Circuit.{Circuit}
+use Rattle.method.specs.Words.{lanes, lane}
+use Rattle.method.specs.Frames.{noFrames, frames, framesAt}
+use Rattle.method.specs.Traces.{traceAt}
+use Rattle.method.specs.Packed.{laneOf, packedWord, packedValues}
+use Rattle.method.proofs.Bits.{pack-ext}
+use Rattle.method.proofs.Netwise.{net-by-net}
+use Rattle.circuit.specs.File.{inputsOf, gatesOf, circuitOf}
+use Rattle.circuit.proofs.Parts.{gates-length}
+use Rattle.planner.specs.Layout.{allTimes}
+use Rattle.planner.proofs.Laying.{total-more}
+use Rattle.planner.proofs.Accepted.{circuit-inputs}
+use Rattle.engine.specs.Values.{netCount, allValues}
+use Rattle.engine.specs.Steps.{Holds, repacked, inputWords}
+
+-- ---- the inputs
+
+module _ (c : Circuit) (before after : List ℕ) where
+  -- each word is packed from its own bits
+  input-words : (i : ℕ) → i < c .inputs → packedValues c before after i ≡ repacked (getD before i 0) ∷ repacked (getD after i 0) ∷ []
+  unfolding packedValues packedWord tabulateFrom
+  input-words i h =
+      let own : (L : ℕ) → L < lanes → traceAt c (laneOf L before after) i .values ≡ lane L (getD before i 0) ∷ lane L (getD after i 0) ∷ [] =
+      λ L l. net-by-net c .0 .input-values (laneOf L before after) i h in
+      rw (net-by-net c .0 .input-times i h) (ap₂ (λ (x y : ℕ). x ∷ y ∷ []) (pack-ext lanes _ _ (λ L l. rw (own L l))) (pack-ext lanes _ _ (λ L l. rw (own L l))))
+
+  all-inputs : inputWords before after (c .inputs) ≡ flatten (tabulate (c .inputs) (packedValues c before after))
+  unfolding inputWords
+  all-inputs = ap flatten (from-ext (c .inputs) 0 _ (packedValues c before after) (λ i l u. sym (input-words i (omega arith))))
+
+-- an input has two frames
+input-frames : (c : Circuit) (n : ℕ) → n ≤ c .inputs → length (allTimes (take n (frames c))) ≡ 2 * n
+unfolding flatMap
+input-frames c zero h = refl
+input-frames c (suc n) h =
+    let some : n < length (frames c) = omega (arith, net-by-net c .0 .frames-count) in
+    rw (take-suc (frames c) n noFrames some)
+    (omega (arith, total-more (take n (frames c)) (framesAt c n), input-frames c n (omega arith), ap length (net-by-net c .0 .input-times n (omega arith))))
+
+module _ (file before after : List ℕ) where
+  pub holds-inputs : {inputs : ℕ} → inputs ≡ inputsOf file → length before ≡ inputsOf file → {v : List ℕ} → take (2 * length before) v ≡ inputWords before after (length before)
+      → Holds file before after inputs v
+  holds-inputs {inputs} e l {v} h =
+      let n : c .inputs ≡ inputs = circuit-inputs file ∙ sym e in
+      record { is = rw (← n, input-frames c (c .inputs) (omega arith), ← all-inputs c before after) (rw (l, ← circuit-inputs file) at h) }
+    where
+      c : Circuit
+      c = circuitOf file
+
+  -- ---- all nets
+
+  module _ {inputs gates : ℕ} (i : inputs ≡ inputsOf file) (g : gates ≡ gatesOf file) {v : List ℕ} (h : Holds file before after (inputs + gates) v) where
+    count-is : inputs + gates ≡ netCount (circuitOf file)
+    count-is = omega (arith, circuit-inputs file, gates-length file)
+
+    pub values-are : take (length (allTimes (frames (circuitOf file)))) v ≡ allValues (circuitOf file) before after
+    unfolding allValues
+    values-are =
+        let whole : take (netCount (circuitOf file)) (frames (circuitOf file)) ≡ frames (circuitOf file) =
+        rw (← net-by-net (circuitOf file) .0 .frames-count) (take-length (frames (circuitOf file))) in
+        rw (count-is, whole) at (h .is)
+
+-- ---- the rest
+
+-- what is behind the first n entries of the area was cleared
+pub rest-cleared : (v : List ℕ) (n : ℕ) {size : ℕ} → length v ≡ size → n ≤ size → {xs : List ℕ} → take n v ≡ xs → {ys : List ℕ} → ys ≡ cleared (take (length v - n) (drop n v))
+    → take n v ++ (ys ++ drop (length v - n) (drop n v)) ≡ padded size xs
+unfolding padded
+rest-cleared v n l h {xs} e {ys} c =
+    let count : length xs ≡ n = ap length (sym e) ∙ length-take-le n v (omega arith) in
+    let zeros : ys ≡ replicate (length v - n) 0 = c ∙ ap (λ (m : ℕ). replicate m 0) (mid-len n (length v) v (omega arith)) in
+    let none : drop (length v - n) (drop n v) ≡ [] = drop-of-length-le (drop n v) {i = length v - n} (omega (arith, length-drop n v)) in
+    rw (none, append-nil ys, e, zeros, count, l)

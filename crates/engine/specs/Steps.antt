@@ -1,0 +1,157 @@
+-- What the engine's own functions promise each other. A reader of Run's promise may skip this file.
+use Prim.Native.Nat.{ℕ, _+_, _*_, _<_, _≤_}
+use mathlib.Core.Path.{_≡_}
+use mathlib.Core.Bool.{Bool, true, false}
+use mathlib.Core.List.{List, [], _∷_, map, flatten}
+use lib.ListN.{length, getD, take}
+use Rattle.lists.specs.Ladder.{accepted, firstNo}
+use Rattle.lists.specs.Tables.{tabulate}
+use Rattle.method.specs.declared.Kind.{Kind}
+use Rattle.method.specs.declared.Kind.the-variants.{Buf, Not, And, Nand, Or, Nor, Xor, Xnor}
+use Rattle.method.specs.Kinds.{gateFn, mostFanins, takes}
+use Rattle.method.specs.Frames.{frames}
+use Rattle.method.specs.Words.{lanes, lane, pack}
+use Rattle.method.specs.Packed.{packedValues}
+use Rattle.circuit.specs.declared.GateRecord.{GateRecord}
+use Rattle.circuit.specs.File.{inputsOf, gatesOf, faninAt, circuitOf}
+use Rattle.circuit.specs.Questions.{readOf}
+use Rattle.planner.specs.Areas.{areas}
+use Rattle.planner.specs.Layout.{laid, firstFrame, frameCount, partOf, allTimes}
+use Rattle.planner.specs.Questions.{areasSuit, fits}
+use Rattle.words.specs.Filtered.{filteredWords}
+use Rattle.engine.specs.declared.rows.Rule.{Rule}
+use Rattle.engine.specs.Areas.{Areas}
+use Rattle.engine.specs.Questions.{firstQuestions}
+
+-- ---- the raw word of one frame
+
+-- the word of a gate from its fan-ins' words: in every lane the gate's function of that lane's bits
+unfoldable pub gateWord : Kind → List ℕ → ℕ
+gateWord k words = pack lanes (λ (L : ℕ). gateFn k (map (lane L) words))
+
+-- all 64 lanes, or none
+abbrev pub mask : Bool → ℕ
+mask true = 18446744073709551615
+mask false = 0
+
+-- how a kind works on its entries: whether each is turned; whether exactly one has to be 1 then, or at least one; whether
+-- the result is flipped
+unfoldable pub turned : Kind → Bool
+turned And = true
+turned Nand = true
+turned Buf = false
+turned Not = false
+turned Or = false
+turned Nor = false
+turned Xor = false
+turned Xnor = false
+
+unfoldable pub exact : Kind → Bool
+exact Xor = true
+exact Xnor = true
+exact Buf = false
+exact Not = false
+exact And = false
+exact Nand = false
+exact Or = false
+exact Nor = false
+
+unfoldable pub flipped : Kind → Bool
+flipped Not = true
+flipped And = true
+flipped Nor = true
+flipped Xnor = true
+flipped Buf = false
+flipped Nand = false
+flipped Or = false
+flipped Xor = false
+
+abbrev pub ruleOf : Kind → Rule
+ruleOf k = record { kind = k; turn = mask (turned k); exact = mask (exact k); flip = mask (flipped k) }
+
+-- where entry e of the fan-in row at `at` points to, if the fan-ins' frames start at these bases; and the word there
+abbrev pub target : List ℕ → List ℕ → ℕ → ℕ → ℕ
+target bases fan at e = getD bases e 0 + getD fan (at + e) 0
+
+abbrev pub sourceAt : List ℕ → List ℕ → List ℕ → ℕ → ℕ → ℕ
+sourceAt v bases fan at e = getD v (target bases fan at e) 0
+
+pub record Points (limit : ℕ) (bases fan : List ℕ) (at e : ℕ) : Type 0 where
+  pub few : e < mostFanins
+  pub within : at + e < length fan
+  pub below : target bases fan at e < limit
+
+-- the words that the row points to
+abbrev pub sources : List ℕ → List ℕ → List ℕ → ℕ → ℕ → List ℕ
+sources v bases fan at entries = tabulate entries (sourceAt v bases fan at)
+
+-- the row lies within the fan-in area and points below `limit`
+pub record Row (limit : ℕ) (bases fan : List ℕ) (at entries : ℕ) : Type 0 where
+  pub few : entries ≤ mostFanins
+  pub within : at + entries ≤ length fan
+  pub points : (e : ℕ) → e < entries → target bases fan at e < limit
+
+-- ---- the raw words of one gate
+
+-- of n frames, whose rows start at `at`
+unfoldable pub rawWords : List ℕ → List ℕ → List ℕ → Kind → ℕ → ℕ → ℕ → List ℕ
+rawWords v bases fan k entries at n = tabulate n (λ (i : ℕ). gateWord k (sources v bases fan (at + i * entries) entries))
+
+-- a gate whose n frames start at `first`: there is room for them, and their rows point below them
+pub record Raw (size : ℕ) (bases fan : List ℕ) (k : Kind) (at entries first n : ℕ) : Type 0 where
+  pub taken : takes k entries ≡ true
+  pub few : entries ≤ mostFanins
+  pub room : first + n ≤ size
+  pub within : at + n * entries ≤ length fan
+  pub points : (i e : ℕ) → i < n → e < entries → target bases fan (at + i * entries) e < first
+
+-- where the frames of a gate's fan-ins start
+abbrev pub basesOf : List ℕ → List ℕ → GateRecord → List ℕ
+basesOf file d g = tabulate (g .entries) (λ (e : ℕ). firstFrame d (faninAt file (g .list) e))
+
+-- an array that holds them
+pub record Bases (file d : List ℕ) (g : GateRecord) (bases : List ℕ) : Type 0 where
+  pub base : (e : ℕ) → e < g .entries → getD bases e 0 ≡ firstFrame d (faninAt file (g .list) e)
+
+-- ---- one gate
+
+-- the words of a gate on this net, whose fan-in rows start at `at`
+unfoldable pub gateWords : List ℕ → List ℕ → List ℕ → List ℕ → ℕ → GateRecord → ℕ → List ℕ → List ℕ
+gateWords file d i f net g at v =
+    filteredWords (partOf d i net) (rawWords v (basesOf file d g) f (g .kind) (g .entries) at (frameCount d net))
+
+-- the plan's areas hold what evaluating the gate reads
+pub record Ready (file d i f : List ℕ) (size net : ℕ) (g : GateRecord) (at : ℕ) : Type 0 where
+  pub pair : 2 * net + 1 < length d
+  pub fanin-pair : (e : ℕ) → e < g .entries → 2 * faninAt file (g .list) e < length d
+  pub raw : Raw size (basesOf file d g) f (g .kind) at (g .entries) (firstFrame d net) (frameCount d net)
+  pub indices : firstFrame d net + frameCount d net ≤ length i
+  pub still : g .inertial ≡ 0 → (k : ℕ) → getD (partOf d i net) k 0 ≡ 0
+
+-- ---- all gates
+
+-- the areas hold the plan of an accepted file, with some times
+pub record Planned (file d i f : List ℕ) : Type 0 where
+  pub read : readOf file ≡ accepted (record { inputs = inputsOf file; gates = gatesOf file })
+  pub times : List ℕ
+  pub suits : areasSuit (areas d times i f) ≡ true
+  pub fit : fits (frames (circuitOf file)) ≡ true
+  pub is : areas d times i f ≡ laid (frames (circuitOf file)) (areas d times i f)
+
+-- the values area starts with the packed values of the first n nets
+pub record Holds (file before after : List ℕ) (n : ℕ) (v : List ℕ) : Type 0 where
+  pub is : take (length (allTimes (take n (frames (circuitOf file))))) v ≡ flatten (tabulate n (packedValues (circuitOf file) before after))
+
+-- the two words of each of the first n inputs, each packed from its own bits
+abbrev pub repacked : ℕ → ℕ
+repacked word = pack lanes (λ (L : ℕ). lane L word)
+
+unfoldable pub inputWords : List ℕ → List ℕ → ℕ → List ℕ
+inputWords before after n = flatten (tabulate n (λ (i : ℕ). repacked (getD before i 0) ∷ repacked (getD after i 0) ∷ []))
+
+-- ---- the whole
+
+-- an accepted file, areas and word lists that passed questions 1 to 11
+pub record Asked (file : List ℕ) (a : Areas) (before after : ℕ) : Type 0 where
+  pub read : readOf file ≡ accepted (record { inputs = inputsOf file; gates = gatesOf file })
+  pub none : firstNo (firstQuestions file a before after) ≡ 0

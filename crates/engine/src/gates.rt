@@ -1,0 +1,115 @@
+// The gates, one after the other: each net's words from those of the nets before it.
+ghost use mathlib.Core.Path.{_≡_};
+ghost use mathlib.Core.List.{List};
+ghost use Prim.Native.Nat.{ℕ, _+_, _*_, _<_, _≤_};
+ghost use lib.ListN.{length, take};
+ghost use lib.Seq.{sets};
+ghost use Rattle.method.specs.Kinds.{mostFanins};
+ghost use Rattle.circuit.specs.File.{inputsOf, gatesOf, faninAt};
+ghost use Rattle.planner.specs.Layout.{firstFrame, frameCount};
+ghost use Rattle.engine.specs.Steps.{Bases, Holds, Planned, Ready, gateWords, inputWords};
+use crate::rows::raw_words;
+use crate::rows::rule_of;
+use circuit::GateRecord;
+use method::Net;
+
+// Writes the two words of each input.
+pub(crate) fn input_words(values: &mut [u64], before: &[u64], after: &[u64])
+    requires { ⌜ (2 * length (now before) ≤ length (now values)) × (length (now after) ≡ length (now before)) ⌝ }
+    ensures { λ _. ⌜ take (2 * length (now (before .entry))) (now (values .exit)) ≡ inputWords (now (before .entry)) (now (after .entry)) (length (now (before .entry))) ⌝ }
+{
+    let mut i = 0;
+    while i < before.len() {
+        values[2 * i] = before[i];
+        values[2 * i + 1] = after[i];
+        i += 1;
+    }
+}
+
+// Writes the words of all gates behind those of the inputs.
+pub(crate) fn all_gates(
+    file: &[u8],
+    directory: &[u16],
+    inertial: &[u16],
+    fanins: &[u16],
+    values: &mut [u64],
+    inputs: u16,
+    gates: u16,
+)
+    requires { ⌜ Planned (now file) (now directory) (now inertial) (now fanins) × (inputs ≡ inputsOf (now file)) × (gates ≡ gatesOf (now file)) ⌝ }
+    requires { ⌜ length (now values) ≡ 2048 ⌝ }
+    ensures { λ _. ⌜ ((before after : List ℕ) → Holds (now (file .entry)) before after inputs (now (values .entry)) → Holds (now (file .entry)) before after (inputs + gates) (now (values .exit))) ⌝ }
+{
+    let mut at: usize = 0;
+    let mut j: u16 = 0;
+    while j < gates {
+        let gate = circuit::gate_at(file, j);
+        let net = Net(inputs + j);
+        gate_words(file, directory, inertial, fanins, values, net, gate, at);
+        at += rows_of(directory, net, gate);
+        j += 1;
+    }
+}
+
+// How many fan-in entries the frames of a gate on this net have.
+fn rows_of(directory: &[u16], net: Net, gate: GateRecord) -> usize
+    requires { ⌜ 2 * net .0 + 1 < length (now directory) ⌝ }
+    ensures { λ r. ⌜ r ≡ frameCount (now (directory .entry)) (net .0) * gate .entries ⌝ }
+{
+    directory[2 * (net.0 as usize) + 1] as usize * (gate.entries as usize)
+}
+
+// Writes the words of a gate on this net, whose fan-in rows start at `at`: the raw words, then the filter, in place. Without
+// an inertial delay nothing is filtered.
+fn gate_words(
+    file: &[u8],
+    directory: &[u16],
+    inertial: &[u16],
+    fanins: &[u16],
+    values: &mut [u64],
+    net: Net,
+    gate: GateRecord,
+    at: usize,
+)
+    requires { ⌜ Ready (now file) (now directory) (now inertial) (now fanins) (length (now values)) (net .0) gate at ⌝ }
+    ensures { λ _. ⌜ now (values .exit) ≡ sets (now (values .entry)) (firstFrame (now (directory .entry)) (net .0)) (gateWords (now (file .entry)) (now (directory .entry)) (now (inertial .entry)) (now (fanins .entry)) (net .0) gate at (now (values .entry))) ⌝ }
+{
+    let pair = 2 * (net.0 as usize);
+    let first = directory[pair] as usize;
+    let frames = directory[pair + 1] as usize;
+    let end = first + frames;
+    let bases = bases_of(file, directory, gate);
+    let kind = gate.kind;
+    let entries = gate.entries as usize;
+    raw_words(
+        values,
+        first,
+        frames,
+        &bases,
+        fanins,
+        at,
+        entries,
+        rule_of(kind),
+    );
+    if gate.inertial == 0 {
+        return;
+    }
+    words::filter(&mut values[first..end], &inertial[first..end]);
+}
+
+// Where the frames of each fan-in of a gate start.
+fn bases_of(file: &[u8], directory: &[u16], gate: GateRecord) -> [usize; 8]
+    requires { ⌜ (gate .entries ≤ mostFanins) × ((e : ℕ) → e < gate .entries → 2 * faninAt (now file) (gate .list) e < length (now directory)) ⌝ }
+    ensures { λ r. ⌜ Bases (now (file .entry)) (now (directory .entry)) gate r ⌝ }
+{
+    let list = gate.list;
+    let entries = gate.entries;
+    let mut bases = [0usize; 8];
+    let mut e: u16 = 0;
+    while e < entries {
+        let fanin = circuit::fanin_at(file, list, e);
+        bases[e as usize] = directory[2 * (fanin.0 as usize)] as usize;
+        e += 1;
+    }
+    bases
+}

@@ -1,0 +1,196 @@
+// Run, Level and Count: a circuit simulated for 64 pattern pairs at once, and what is read off a net.
+ghost use mathlib.Core.Path.{_≡_};
+ghost use lib.ListN.{length};
+ghost use Rattle.lists.specs.Ladder.{firstNo};
+ghost use Rattle.circuit.specs.File.{inputsOf, gatesOf};
+ghost use Rattle.planner.specs.Plan.{onPaper};
+ghost use Rattle.engine.specs.Areas.{areas};
+ghost use Rattle.engine.specs.Questions.{firstQuestions, ownQuestions};
+ghost use Rattle.engine.specs.Run.{outcome, runOf};
+ghost use Rattle.engine.specs.Look.{levelOf, countOf, seenOnPaper, countedOnPaper};
+ghost use Rattle.engine.specs.Steps.{Asked};
+
+mod gates;
+mod looking;
+mod rows;
+
+use circuit::Reading;
+use gates::all_gates;
+use gates::input_words;
+use looking::changes;
+use looking::look_fault;
+use method::Time;
+use planner::Planning;
+
+const VALUES_LENGTH: usize = 2048;
+
+// Runs the circuit of the file with a before word and an after word for each input: questions 1 to 11, and 13. It answers
+// what Plan does.
+pub fn run(
+    file: &[u8],
+    directory: &mut [u16],
+    times: &mut [u16],
+    inertial: &mut [u16],
+    fanins: &mut [u16],
+    values: &mut [u64],
+    before: &[u64],
+    after: &[u64],
+) -> Planning
+    ensures { λ r. ⌜ outcome (onPaper r) (areas (now (directory .exit)) (now (times .exit)) (now (inertial .exit)) (now (fanins .exit)) (now (values .exit))) ≡ runOf (now (file .entry)) (now (before .entry)) (now (after .entry)) (areas (now (directory .entry)) (now (times .entry)) (now (inertial .entry)) (now (fanins .entry)) (now (values .entry))) ⌝ }
+{
+    match circuit::read(file) {
+        Reading::Refused(n) => Planning::Refused(n),
+        Reading::Accepted { inputs, gates } => {
+            let fault = own_fault(
+                inputs,
+                directory,
+                times,
+                inertial,
+                fanins,
+                values,
+                before,
+                after,
+            );
+            if fault != 0 {
+                return Planning::Refused(fault);
+            }
+            simulate(
+                file,
+                inputs,
+                gates,
+                directory,
+                times,
+                inertial,
+                fanins,
+                values,
+                before,
+                after,
+            )
+        }
+    }
+}
+
+// What Run asks from 1 to 11, for calls that ask more before they run: the number of the first "no", or 0.
+pub fn questions(
+    file: &[u8],
+    directory: &[u16],
+    times: &[u16],
+    inertial: &[u16],
+    fanins: &[u16],
+    values: &[u64],
+    before: &[u64],
+    after: &[u64],
+) -> u8
+    ensures { λ r. ⌜ r ≡ firstNo (firstQuestions (now (file .entry)) (areas (now (directory .entry)) (now (times .entry)) (now (inertial .entry)) (now (fanins .entry)) (now (values .entry))) (length (now (before .entry))) (length (now (after .entry)))) ⌝ }
+{
+    match circuit::read(file) {
+        Reading::Refused(n) => n,
+        Reading::Accepted { inputs, gates } => own_fault(
+            inputs,
+            directory,
+            times,
+            inertial,
+            fanins,
+            values,
+            before,
+            after,
+        ),
+    }
+}
+
+// Questions 10 and 11: the number of the first "no", or 0.
+fn own_fault(
+    inputs: u16,
+    directory: &[u16],
+    times: &[u16],
+    inertial: &[u16],
+    fanins: &[u16],
+    values: &[u64],
+    before: &[u64],
+    after: &[u64],
+) -> u8
+    ensures { λ r. ⌜ r ≡ firstNo (ownQuestions inputs (areas (now (directory .entry)) (now (times .entry)) (now (inertial .entry)) (now (fanins .entry)) (now (values .entry))) (length (now (before .entry))) (length (now (after .entry)))) ⌝ }
+{
+    if !planner::areas_suit(directory, times, inertial, fanins) {
+        return 10;
+    }
+    if values.len() != VALUES_LENGTH {
+        return 10;
+    }
+    if before.len() != inputs as usize {
+        return 11;
+    }
+    if after.len() != inputs as usize {
+        return 11;
+    }
+    0
+}
+
+// Plans and evaluates a circuit that has passed questions 1 to 11. What is behind the last frame is 0; so is everything if
+// there are too many frames.
+fn simulate(
+    file: &[u8],
+    inputs: u16,
+    gates: u16,
+    directory: &mut [u16],
+    times: &mut [u16],
+    inertial: &mut [u16],
+    fanins: &mut [u16],
+    values: &mut [u64],
+    before: &[u64],
+    after: &[u64],
+) -> Planning
+    requires { ⌜ Asked (now file) (areas (now directory) (now times) (now inertial) (now fanins) (now values)) (length (now before)) (length (now after)) × (inputs ≡ inputsOf (now file)) × (gates ≡ gatesOf (now file)) ⌝ }
+    ensures { λ r. ⌜ outcome (onPaper r) (areas (now (directory .exit)) (now (times .exit)) (now (inertial .exit)) (now (fanins .exit)) (now (values .exit))) ≡ runOf (now (file .entry)) (now (before .entry)) (now (after .entry)) (areas (now (directory .entry)) (now (times .entry)) (now (inertial .entry)) (now (fanins .entry)) (now (values .entry))) ⌝ }
+{
+    match planner::plan(file, directory, times, inertial, fanins) {
+        Planning::Refused(n) => {
+            lists::clear_words(values);
+            Planning::Refused(n)
+        }
+        Planning::Planned(t) => {
+            let frames = t.frames as usize;
+            input_words(values, before, after);
+            all_gates(file, directory, inertial, fanins, values, inputs, gates);
+            let end = values.len();
+            lists::clear_words(&mut values[frames..end]);
+            Planning::Planned(t)
+        }
+    }
+}
+
+// What Level answers: the level, or the number of the first "no".
+pub enum Seen {
+    Level(bool),
+    Refused(u8),
+}
+
+// What Count answers: how many changes, or the number of the first "no".
+pub enum Counted {
+    Changes(u16),
+    Refused(u8),
+}
+
+// The level of a lane at a time, from one net's parts of the times and the values: questions 14 to 16.
+pub fn level(times: &[u16], values: &[u64], lane: u8, time: Time) -> Seen
+    ensures { λ r. ⌜ seenOnPaper r ≡ levelOf (now (times .entry)) (now (values .entry)) lane (time .0) ⌝ }
+{
+    let fault = look_fault(times, values, lane);
+    if fault != 0 {
+        return Seen::Refused(fault);
+    }
+    // The first later frame, and there is one before it: time 0 is not later.
+    let later = lists::first_above(times, 1, time.0);
+    Seen::Level(words::bit_of(values[later - 1], lane))
+}
+
+// How often a lane changes, from one net's parts of the times and the values: questions 14 to 16.
+pub fn count(times: &[u16], values: &[u64], lane: u8) -> Counted
+    ensures { λ r. ⌜ countedOnPaper r ≡ countOf (now (times .entry)) (now (values .entry)) lane ⌝ }
+{
+    let fault = look_fault(times, values, lane);
+    if fault != 0 {
+        return Counted::Refused(fault);
+    }
+    Counted::Changes(changes(values, lane))
+}

@@ -1,0 +1,192 @@
+// The raw words of a gate's frames: 64 lanes at once.
+ghost use mathlib.Core.Path.{_≡_};
+ghost use mathlib.Core.Bool.{true};
+ghost use mathlib.Core.List.{[], _∷_};
+ghost use Prim.Native.Nat.{_*_, _<_};
+ghost use lib.ListN.{length};
+ghost use lib.Seq.{sets};
+ghost use Rattle.method.specs.Kinds.{mostFanins, takes};
+ghost use Rattle.engine.specs.Steps.{Points, Raw, Row, gateWord, rawWords, ruleOf, sourceAt, sources};
+use method::Kind;
+
+const ALL: u64 = 18446744073709551615;
+
+// How a kind works on words: each entry is turned, then the lanes with an entry 1 are taken, or those with exactly one, and
+// the result is flipped. Each mask is all lanes or none, so that a kind needs no branch.
+pub(crate) struct Rule {
+    kind: Kind,
+    turn: u64,
+    exact: u64,
+    flip: u64,
+}
+
+pub(crate) fn rule_of(kind: Kind) -> Rule
+    ensures { λ r. ⌜ r ≡ ruleOf kind ⌝ }
+{
+    match kind {
+        Kind::Buf => Rule {
+            kind: Kind::Buf,
+            turn: 0,
+            exact: 0,
+            flip: 0,
+        },
+        Kind::Not => Rule {
+            kind: Kind::Not,
+            turn: 0,
+            exact: 0,
+            flip: ALL,
+        },
+        Kind::And => Rule {
+            kind: Kind::And,
+            turn: ALL,
+            exact: 0,
+            flip: ALL,
+        },
+        Kind::Nand => Rule {
+            kind: Kind::Nand,
+            turn: ALL,
+            exact: 0,
+            flip: 0,
+        },
+        Kind::Or => Rule {
+            kind: Kind::Or,
+            turn: 0,
+            exact: 0,
+            flip: 0,
+        },
+        Kind::Nor => Rule {
+            kind: Kind::Nor,
+            turn: 0,
+            exact: 0,
+            flip: ALL,
+        },
+        Kind::Xor => Rule {
+            kind: Kind::Xor,
+            turn: 0,
+            exact: ALL,
+            flip: 0,
+        },
+        Kind::Xnor => Rule {
+            kind: Kind::Xnor,
+            turn: 0,
+            exact: ALL,
+            flip: ALL,
+        },
+    }
+}
+
+// Writes the raw words of a gate's frames from `first` on; their fan-in rows start at `at`.
+pub(crate) fn raw_words(
+    values: &mut [u64],
+    first: usize,
+    frames: usize,
+    bases: &[usize; 8],
+    fanins: &[u16],
+    at: usize,
+    entries: usize,
+    rule: Rule,
+)
+    requires { ⌜ Raw (length (now values)) (now bases) (now fanins) (rule .kind) at entries first frames × (rule ≡ ruleOf (rule .kind)) ⌝ }
+    ensures { λ _. ⌜ now (values .exit) ≡ sets (now (values .entry)) first (rawWords (now (values .entry)) (now (bases .entry)) (now (fanins .entry)) (rule .kind) entries at frames) ⌝ }
+{
+    if entries == 2 {
+        pair_rows(values, first, frames, bases, fanins, at, rule);
+        return;
+    }
+    wide_rows(values, first, frames, bases, fanins, at, entries, rule);
+}
+
+// The raw words of a gate of two fan-ins.
+fn pair_rows(
+    values: &mut [u64],
+    first: usize,
+    frames: usize,
+    bases: &[usize; 8],
+    fanins: &[u16],
+    at: usize,
+    rule: Rule,
+)
+    requires { ⌜ Raw (length (now values)) (now bases) (now fanins) (rule .kind) at 2 first frames × (rule ≡ ruleOf (rule .kind)) ⌝ }
+    ensures { λ _. ⌜ now (values .exit) ≡ sets (now (values .entry)) first (rawWords (now (values .entry)) (now (bases .entry)) (now (fanins .entry)) (rule .kind) 2 at frames) ⌝ }
+{
+    let mut row = at;
+    let mut k = 0;
+    while k < frames {
+        let x = source(values, bases, fanins, row, 0);
+        let y = source(values, bases, fanins, row, 1);
+        values[first + k] = pair_word(rule, x, y);
+        row += 2;
+        k += 1;
+    }
+}
+
+// The raw word of a frame from two words.
+fn pair_word(rule: Rule, x: u64, y: u64) -> u64
+    requires { ⌜ (takes (rule .kind) 2 ≡ true) × (rule ≡ ruleOf (rule .kind)) ⌝ }
+    ensures { λ r. ⌜ r ≡ gateWord (rule .kind) (x ∷ y ∷ []) ⌝ }
+{
+    let turn = rule.turn;
+    let exact = rule.exact;
+    let flip = rule.flip;
+    let a = x ^ turn;
+    let b = y ^ turn;
+    ((a | b) ^ ((a & b) & exact)) ^ flip
+}
+
+// The raw words of a gate of any number of fan-ins.
+fn wide_rows(
+    values: &mut [u64],
+    first: usize,
+    frames: usize,
+    bases: &[usize; 8],
+    fanins: &[u16],
+    at: usize,
+    entries: usize,
+    rule: Rule,
+)
+    requires { ⌜ Raw (length (now values)) (now bases) (now fanins) (rule .kind) at entries first frames × (rule ≡ ruleOf (rule .kind)) ⌝ }
+    ensures { λ _. ⌜ now (values .exit) ≡ sets (now (values .entry)) first (rawWords (now (values .entry)) (now (bases .entry)) (now (fanins .entry)) (rule .kind) entries at frames) ⌝ }
+{
+    let mut row = at;
+    let mut k = 0;
+    while k < frames {
+        values[first + k] = row_word(values, bases, fanins, row, entries, rule);
+        row += entries;
+        k += 1;
+    }
+}
+
+// The raw word of a frame whose fan-in row starts at `at`: `one` are the lanes with an entry 1 so far, `more` those with two.
+fn row_word(
+    values: &[u64],
+    bases: &[usize; 8],
+    fanins: &[u16],
+    at: usize,
+    entries: usize,
+    rule: Rule,
+) -> u64
+    requires { ⌜ Row (length (now values)) (now bases) (now fanins) at entries × (takes (rule .kind) entries ≡ true) × (rule ≡ ruleOf (rule .kind)) ⌝ }
+    ensures { λ r. ⌜ r ≡ gateWord (rule .kind) (sources (now (values .entry)) (now (bases .entry)) (now (fanins .entry)) at entries) ⌝ }
+{
+    let turn = rule.turn;
+    let exact = rule.exact;
+    let flip = rule.flip;
+    let mut one: u64 = 0;
+    let mut more: u64 = 0;
+    let mut e = 0;
+    while e < entries {
+        let word = source(values, bases, fanins, at, e) ^ turn;
+        more = more | (one & word);
+        one = one | word;
+        e += 1;
+    }
+    (one ^ (more & exact)) ^ flip
+}
+
+// The word that entry e of the fan-in row at `at` points to.
+fn source(values: &[u64], bases: &[usize; 8], fanins: &[u16], at: usize, e: usize) -> u64
+    requires { ⌜ Points (length (now values)) (now bases) (now fanins) at e ⌝ }
+    ensures { λ r. ⌜ r ≡ sourceAt (now (values .entry)) (now (bases .entry)) (now (fanins .entry)) at e ⌝ }
+{
+    values[bases[e] + fanins[at + e] as usize]
+}

@@ -1,0 +1,2 @@
+-- The inertial filter on words, lane by lane.
+pub mod Filtered
