@@ -4,60 +4,44 @@
 use Prim.Native.Nat.{ℕ}
 use mathlib.Core.Path.{_≡_, refl, sym, ap, _∙_}
 use mathlib.Core.Bool.{true}
-use mathlib.Core.List.{List, [], _∷_, _++_, append-assoc}
+use mathlib.Core.List.{List, []}
 use native.Mathlib.Omega.{arith}
-use lib.Dec.{eqb}
 use lib.ListN.{length}
-use Rattle.lists.specs.Ladder.{_orElse_, firstNo, accepted}
+use Rattle.lists.specs.Ladder.{firstNo, accepted}
 use Rattle.lists.specs.Areas.{padded}
-use Rattle.lists.proofs.Choices.{and-left}
-use Rattle.lists.proofs.Ladders.{first, first-none, firstNo-append, asked, accepted-none, unless-none}
+use Rattle.lists.proofs.Ladders.{first-none, asked, accepted-none, unless-none}
 use Rattle.method.specs.Circuit.{Circuit}
 use Rattle.method.specs.Frames.{frames}
 use Rattle.circuit.specs.File.{inputsOf, gatesOf, circuitOf}
 use Rattle.circuit.specs.Questions as reader
-use Rattle.circuit.proofs.Gated.{questions-numbered}
 use Rattle.planner.specs.Layout.{laid}
 use Rattle.planner.specs.Plan.{totalsOf}
 use Rattle.planner.specs.Questions as planner
 use Rattle.planner.proofs.Calling.{plan-kept}
 use Rattle.engine.specs.Areas.{Areas}
 use Rattle.engine.specs.Values.{allValues}
-use Rattle.engine.specs.Questions.{valuesLength, areasSuit, wordsSuit, ownQuestions, firstQuestions, questions}
+use Rattle.engine.specs.Questions.{firstQuestions, questions}
 use Rattle.engine.specs.Run.{Outcome, filled, leftBy, runOf}
 use Rattle.engine.specs.After.{Ran}
+use Rattle.engine.proofs.Asking.{Passed, passed}
+use Rattle.engine.proofs.Laid.{lastQuestion}
+use Rattle.engine.proofs.Running.{joined}
 
 -- ---- no question was answered no
 
-pub record Passed (file : List ℕ) (a : Areas) : Type 0 where
-  pub read : reader.readOf file ≡ accepted (record { inputs = inputsOf file; gates = gatesOf file })
-  pub suits : planner.areasSuit (a .plan) ≡ true
-  pub fit : planner.fits (frames (circuitOf file)) ≡ true
+module _ (file : List ℕ) (a : Areas) (before after : ℕ) (e : firstNo (questions file a before after) ≡ 0) where
+  parts : (firstNo (firstQuestions file a before after) ≡ 0) × (firstNo (lastQuestion file) ≡ 0)
+  parts = first-none (firstNo (firstQuestions file a before after)) (firstNo (lastQuestion file)) (sym (joined file a before after) ∙ e)
 
-module _ (file : List ℕ) (a : Areas) (before after : ℕ) where
-  joined : firstNo (questions file a before after)
-      ≡ first (firstNo (reader.questions file)) (firstNo (ownQuestions (inputsOf file) a before after ++ ((planner.fits (frames (circuitOf file)) orElse 13) ∷ [])))
-  unfolding questions firstQuestions
-  joined =
-      let rest = (planner.fits (frames (circuitOf file)) orElse 13) ∷ [] in
-      rw (append-assoc (reader.questions file) (ownQuestions (inputsOf file) a before after) rest)
-      (firstNo-append 9 (reader.questions file) (ownQuestions (inputsOf file) a before after ++ rest) (questions-numbered file))
+  yes-all : Passed file a before after
+  yes-all = passed file a before after (parts .0)
 
-  file-read : firstNo (reader.questions file) ≡ 0 → reader.readOf file ≡ accepted (record { inputs = inputsOf file; gates = gatesOf file })
+  file-read : reader.readOf file ≡ accepted (record { inputs = inputsOf file; gates = gatesOf file })
   unfolding reader.readOf reader.sizeOf
-  file-read e = unless-none (firstNo (reader.questions file)) (reader.sizeOf file) e
+  file-read = unless-none (firstNo (reader.questions file)) (reader.sizeOf file) (yes-all .reads)
 
-  plan-suits : areasSuit a ≡ true → planner.areasSuit (a .plan) ≡ true
-  unfolding areasSuit
-  plan-suits e = and-left (planner.areasSuit (a .plan)) (eqb (length (a .values)) valuesLength) e
-
-  pub passed : firstNo (questions file a before after) ≡ 0 → Passed file a
-  passed e =
-      let none = first-none (firstNo (reader.questions file)) _ (sym joined ∙ e) in
-      let q10 = asked (areasSuit a) 10 _ (λ z. omega arith) (none .1) in
-      let q11 = asked (wordsSuit (inputsOf file) before after) 11 _ (λ z. omega arith) (q10 .1) in
-      let q13 = asked (planner.fits (frames (circuitOf file))) 13 [] (λ z. omega arith) (q11 .1) in
-      record { read = file-read (none .0); suits = plan-suits (q10 .0); fit = q13 .0 }
+  plan-fit : planner.fits (frames (circuitOf file)) ≡ true
+  plan-fit = asked (planner.fits (frames (circuitOf file))) 13 [] (λ z. omega arith) (parts .1) .0
 
 -- ---- what it leaves
 
@@ -92,11 +76,13 @@ module _ (file before after : List ℕ) {a : Areas} (r : Ran file before after a
 
   pub held : Held file before after a
   held =
-      let p = passed file (r .entry) (length before) (length after) none in
+      let read = file-read file (r .entry) (length before) (length after) none in
+      let fit = plan-fit file (r .entry) (length before) (length after) none in
+      let suits = yes-all file (r .entry) (length before) (length after) none .suits in
       record {
-        read = p .read;
-        fit = p .fit;
-        plan-is = plan-kept file (r .entry .plan) (p .read) (p .suits) (p .fit) (ap (λ (x : Areas). x .plan) left-filled ∙ filled-plan (circuitOf file) before after (r .entry));
+        read = read;
+        fit = fit;
+        plan-is = plan-kept file (r .entry .plan) read suits fit (ap (λ (x : Areas). x .plan) left-filled ∙ filled-plan (circuitOf file) before after (r .entry));
         size = length (r .entry .values);
         values-are = ap (λ (x : Areas). x .values) left-filled ∙ filled-values (circuitOf file) before after (r .entry);
       }

@@ -63,19 +63,19 @@ module _ (file before after : List ℕ) {a : Areas} (b : Held file before after 
   there : n < length (frames c)
   there = rw (nets-count c) h
 
-  frames-some : 1 ≤ length (framesAt c n .times)
+  pub frames-some : 1 ≤ length (framesAt c n .times)
   frames-some = omega (arith, net-by-net c .0 .index-within 0 n 0)
 
-  frames-few : length (framesAt c n .times) ≤ mostNetFrames
+  pub frames-few : length (framesAt c n .times) ≤ mostNetFrames
   frames-few = fits-net (frames c) (b .fit) n
 
   count-is : getD (a .plan .directory) (2 * n + 1) 0 ≡ length (framesAt c n .times)
   count-is = pair-count (frames c) (b .plan-is) n there
 
-  times-are : timesOf a n ≡ framesAt c n .times
+  pub times-are : timesOf a n ≡ framesAt c n .times
   times-are = times-part (frames c) (b .plan-is) n there
 
-  values-are : valuesOf a n ≡ packedValues c before after n
+  pub values-are : valuesOf a n ≡ packedValues c before after n
   values-are = words-part c before after (b .plan-is) n (b .size) h (b .values-are)
 
   inside : getD (a .plan .directory) (2 * n) 0 + getD (a .plan .directory) (2 * n + 1) 0 ≤ 2048
@@ -115,9 +115,9 @@ after-run file before after a r =
       some-frame = λ n h. rw (count-is file before after b n h) (frames-some file before after b n h);
       few-frames = λ n h. rw (count-is file before after b n h) (frames-few file before after b n h);
       inside = inside file before after b;
-      level-is-machine = λ n L t h l k. level-is file before after b n h L l t;
+      level-is-machine = λ n L t h l. level-is file before after b n h L l t;
       count-is-machine = λ n L h l. changes-are file before after b n h L l;
-      changes-at-times = λ n L t h l k d. only-at file before after b n h L l t d;
+      changes-at-times = λ n L t h l d. only-at file before after b n h L l t d;
       times-are-potential = λ n t h. rw (times-are file before after b n h);
     }
 
@@ -129,7 +129,7 @@ runs-alike file before after before′ after′ a a′ L l r r′ p q =
     let b = held file before after r in
     let b′ = held file before′ after′ r′ in
     record {
-      same-level = λ n t h k.
+      same-level = λ n t h.
           level-lane file before after b n h L l t
           ∙ ap accepted (in-lanes .same-level (circuitOf file) before after before′ after′ L l p q n t)
           ∙ sym (level-lane file before′ after′ b′ n h L l t);

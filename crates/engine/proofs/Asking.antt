@@ -103,9 +103,9 @@ words-pass : (inputs before after : ℕ) → wordsSuit inputs before after ≡ t
 unfolding wordsSuit
 words-pass inputs before after e = (eqb-true _ _ (and-left (eqb before inputs) _ e), eqb-true _ _ (and-right (eqb before inputs) _ e))
 
-pub passed : (file : List ℕ) {a : Areas} {before after : ℕ} → Asked file a before after → Passed file a before after
-passed file {a} {before} {after} h =
-    let q = first-none (firstNo (reader.questions file)) (firstNo (ownQuestions (inputsOf file) a before after)) (sym (joined file a before after) ∙ h .none) in
+pub passed : (file : List ℕ) (a : Areas) (before after : ℕ) → firstNo (firstQuestions file a before after) ≡ 0 → Passed file a before after
+passed file a before after h =
+    let q = first-none (firstNo (reader.questions file)) (firstNo (ownQuestions (inputsOf file) a before after)) (sym (joined file a before after) ∙ h) in
     let s = asked (areasSuit a) 10 _ (λ z. omega arith) (q .1) in
     let w = asked (wordsSuit (inputsOf file) before after) 11 [] (λ z. omega arith) (s .1) in
     let x = areas-pass a (s .0) in

@@ -4,92 +4,54 @@
 use Prim.Native.Nat.{ℕ, zero, suc, _+_, _-_, _*_, _<_, _≤_}
 use mathlib.Core.Path.{_≡_, refl, sym, ap, ap₂, _∙_, fun-ext}
 use mathlib.Core.Bool.{Bool, true, false}
-use mathlib.Core.List.{List, [], _∷_, _++_, map, flatMap, flatten, append-nil}
+use mathlib.Core.List.{List, [], _∷_, _++_, map, flatMap, flatten}
 use native.Mathlib.Omega.{arith}
-use native.Mathlib.Nat.{add-zero, zero-mul, suc-mul, add-assoc, mul-le-mul-right}
-use native.Mathlib.Numerals.{add-one}
-use lib.Dec.{eqb}
-use lib.ListN.{length, getD, take, drop, length-append, length-map, List·getD-append, List·getD-eq-default}
-use lib.Seq.{sets, take-suc, sets-eq, take-at, take-take, getD-take, getD-append-add, take-append-seam, take-all, length-take-le, take-add, drop-append-seam, ext-getD}
+use native.Mathlib.Nat.{add-zero, suc-mul, add-assoc, mul-le-mul-right}
+use lib.ListN.{length, getD, take, length-append}
+use lib.Seq.{sets, take-suc, take-take, getD-take, length-take-le}
 use borrow.Author.Tests.{eq-eqb}
 use Rattle.lists.specs.Tables.{tabulate, tabulateFrom}
 use mathlib.Core.Logic.{inl, inr}
 use Rattle.lists.proofs.Choices.{order}
-use Rattle.lists.proofs.Tabled.{from-length, from-ext, tabulate-at, tabulate-split}
-use Rattle.lists.proofs.Flat.{flatten-append, flat-even, seam-at}
-use Rattle.method.specs.declared.Kind.{Kind}
+use Rattle.lists.proofs.Tabled.{from-length, from-ext, tabulate-at, map-from, map-at}
+use Rattle.lists.proofs.Flat.{seam-at, table-at, table-length}
+use Rattle.lists.proofs.Storing.{take-stored}
 use Rattle.method.specs.Kinds.{gateFn, takes, mostFanins}
 use Rattle.method.specs.Circuit.{Circuit, gateAt, NoFeedback}
 use Rattle.method.specs.Stimulus.{Stimuli}
 use Rattle.method.specs.Indices.{faninIndex, inertialIndices}
-use Rattle.method.specs.Frames.{Frames, faninRow, noFrames, frames, framesAt}
+use Rattle.method.specs.Frames.{Frames, noFrames, frames, framesAt}
 use Rattle.method.specs.Filter.{filtered}
 use Rattle.method.specs.Traces.{traceAt}
-use Rattle.method.specs.Words.{lanes, lane, pack}
+use Rattle.method.specs.Words.{lanes, lane}
 use Rattle.method.specs.Packed.{laneOf, packedWord, packedValues}
-use Rattle.method.specs.Netwise.{faninTimesOf, rawOf, EveryGate}
+use Rattle.method.specs.Netwise.{rawOf, EveryGate}
 use Rattle.method.proofs.Netwise.{net-by-net}
 use Rattle.method.proofs.Rising.{Rise, Starts}
 use Rattle.method.proofs.Lasting.{upTo-low}
 use Rattle.method.proofs.Planned.{inertial-length, times-start}
 use Rattle.method.proofs.Bits.{pack-lane, pack-ext}
 use Rattle.circuit.specs.declared.GateRecord.{GateRecord}
-use Rattle.circuit.specs.File.{inputsOf, gatesOf, faninAt, recordOf, circuitOf, gateOf}
+use Rattle.circuit.specs.File.{inputsOf, gatesOf, faninAt, recordOf, circuitOf}
 use Rattle.circuit.proofs.Accepted as reader
 use Rattle.circuit.proofs.Faithful.{gate-within}
 use Rattle.circuit.proofs.Bounded.{no-feedback}
 use Rattle.circuit.proofs.Parts.{gates-length, gateFrom, gate-from, RecordWithin}
-use Rattle.planner.specs.Limits.{directoryLength, timesLength, faninsLength, mostTotalFrames}
+use Rattle.planner.specs.Limits.{directoryLength, timesLength, mostTotalFrames}
 use Rattle.planner.specs.Areas.{areas}
-use Rattle.planner.specs.Layout.{firstFrame, frameCount, partOf, allTimes, allFanins, laid}
+use Rattle.planner.specs.Layout.{firstFrame, frameCount, partOf, allTimes, allFanins}
 use Rattle.planner.proofs.Prefix.{frames-all}
 use Rattle.planner.proofs.Accepted.{circuit-inputs, circuit-within, within, gate-read, few, nets-sized}
 use Rattle.planner.proofs.Fitting.{fits-total}
 use Rattle.planner.proofs.Laying.{pair-first, pair-count, inertial-part, fanin-at, frames-end, fanins-end, fanins-more}
 use Rattle.planner.proofs.Calling.{suited}
 use Rattle.words.specs.Filtered.{filteredWords}
-use Rattle.engine.specs.Values.{netCount}
-use Rattle.engine.specs.Steps.{gateWord, target, sourceAt, sources, rawWords, Raw, basesOf, gateWords, Ready, Planned, Holds}
+use Rattle.engine.specs.Steps.{gateWord, target, sourceAt, sources, rawWords, basesOf, gateWords, Ready, Planned, Holds}
 use Rattle.engine.proofs.Writing.{raw-length}
 use Rattle.engine.proofs.Parts.{nets-count, word-each, words-before, flat-at, flat-next, times-next}
 
--- ---- lists made place by place
-
-map-from : {A B : Type 0} (h : A → B) (n j : ℕ) (f : ℕ → A) → map h (tabulateFrom n j f) ≡ tabulateFrom n j (λ (i : ℕ). h (f i))
-unfolding tabulateFrom
-map-from h zero j f = refl
-map-from h (suc n) j f = ap (λ l. h (f j) ∷ l) (map-from h n (suc j) f)
-
--- a list entry by entry
-map-at : {B : Type 0} (h : ℕ → B) (ts : List ℕ) → map h ts ≡ tabulate (length ts) (λ (k : ℕ). h (getD ts k 0))
-map-at h ts = ap (map h) (whole ts) ∙ map-from h (length ts) 0 (λ (k : ℕ). getD ts k 0)
-  where
-    whole : (ts : List ℕ) → ts ≡ tabulate (length ts) (λ (k : ℕ). getD ts k 0)
-    whole ts = sym (ext-getD 0 _ ts (from-length (length ts) 0 _) (λ k l. tabulate-at (length ts) _ 0 k (rw (from-length (length ts) 0 _) at l)))
-
--- row k of a table whose rows are m wide
-table-at : (g : ℕ → List ℕ) (m : ℕ) → ((t : ℕ) → length (g t) ≡ m) → (ts : List ℕ) (k e : ℕ) → k < length ts → e < m → getD (flatten (map g ts)) (k * m + e) 0 ≡ getD (g (getD ts k 0)) e 0
-unfolding flatten
-table-at g m w [] k e h l = absurd (omega arith)
-table-at g m w (t ∷ ts) zero e h l =
-    rw (let q : 0 * m + e ≡ e = omega (arith, zero-mul m) in q) (List·getD-append (g t) (flatten (map g ts)) 0 e (omega (arith, w t)))
-table-at g m w (t ∷ ts) (suc k) e h l =
-    rw (let q : suc k * m + e ≡ length (g t) + (k * m + e) = omega (arith, w t, suc-mul k m) in q)
-    (getD-append-add (g t) (flatten (map g ts)) (k * m + e) 0 ∙ table-at g m w ts k e (omega arith) l)
-
-table-length : (g : ℕ → List ℕ) (m : ℕ) → ((t : ℕ) → length (g t) ≡ m) → (ts : List ℕ) → length (flatten (map g ts)) ≡ length ts * m
-unfolding flatten
-table-length g m w [] = sym (zero-mul m)
-table-length g m w (t ∷ ts) = omega (arith, length-append (g t) (flatten (map g ts)), w t, table-length g m w ts, suc-mul (length ts) m)
-
 entry-fits : (k n m e : ℕ) → k < n → e < m → k * m + e < n * m
 entry-fits k n m e h l = let q : suc k * m ≤ n * m = mul-le-mul-right m h in omega (arith, suc-mul k m)
-
--- the front of an area with a list stored behind it
-take-stored : (v xs : List ℕ) (n : ℕ) → n + length xs ≤ length v → take (n + length xs) (sets v n xs) ≡ take n v ++ xs
-take-stored v xs n h =
-    rw (sets-eq xs v n h)
-    (take-at (take n v ++ xs) (drop (n + length xs) v) (n + length xs) (length-append (take n v) xs ∙ rw (length-take-le n v (omega arith))))
 
 -- without an inertial delay no later frame counts
 none-counted : (p : ℕ) (ts : List ℕ) → Rise p ts → (k : ℕ) → getD (inertialIndices 0 ts) k 0 ≡ 0
@@ -199,7 +161,7 @@ module _ {file d i f : List ℕ} (p : Planned file d i f) where
         ap (λ (n : ℕ). getD f n 0) (add-assoc rowsAt (k * g .entries) e)
         ∙ fanin-at fs (p .is) net there (k * g .entries + e) (rw rows-length (entry-fits k (length ts) (g .entries) e l m))
         ∙ ap (λ (rs : List (List ℕ)). getD (flatten rs) (k * g .entries + e) 0) rows-are
-        ∙ table-at rowOf (g .entries) row-length ts k e l m
+        ∙ table-at rowOf (g .entries) row-length ts 0 k e l m
         ∙ tabulate-at (g .entries) _ 0 e m
 
     fanin-first : (e : ℕ) → e < g .entries → firstFrame d (fanin e) ≡ length (allTimes (take (fanin e) fs))

@@ -34,11 +34,11 @@ lastQuestion file = (fits (frames (circuitOf file)) orElse 13) ∷ []
 module _ (file : List ℕ) {a : engine.Areas} {before after : ℕ} (h : Asked file a before after) where
   -- the inputs' words have room
   pub words-room : (2 * before ≤ length (a .values)) × (after ≡ before)
-  words-room = let y = passed file h in (omega (arith, few file (h .read) .1, y .before-each, y .values), y .after-each ∙ sym (y .before-each))
+  words-room = let y = passed file a before after (h .none) in (omega (arith, few file (h .read) .1, y .before-each, y .values), y .after-each ∙ sym (y .before-each))
 
   at-last : firstNo (questions file (a .plan)) ≡ firstNo (lastQuestion file)
   unfolding questions
-  at-last = firstNo-append 9 (reader.questions file) (ownQuestions file (a .plan)) (questions-numbered file) ∙ rw (passed file h .reads) (ask-yes (areasSuit (a .plan)) 10 _ (passed file h .suits))
+  at-last = firstNo-append 9 (reader.questions file) (ownQuestions file (a .plan)) (questions-numbered file) ∙ rw (passed file a before after (h .none) .reads) (ask-yes (areasSuit (a .plan)) 10 _ (passed file a before after (h .none) .suits))
 
   module _ {x : Answer Totals} {b : Areas} (e : outcome x b ≡ planOf file (a .plan)) where
     answer-is : x ≡ unless (firstNo (lastQuestion file)) (totalsOf (frames (circuitOf file)))
@@ -79,7 +79,7 @@ module _ (file : List ℕ) {a : engine.Areas} {before after : ℕ} (h : Asked fi
 
       -- the values have a word for each frame
       pub plan-room : totals .frames ≤ length (a .values)
-      plan-room = omega (arith, plan-frames, fits-total (frames (circuitOf file)) plan-fits, passed file h .values)
+      plan-room = omega (arith, plan-frames, fits-total (frames (circuitOf file)) plan-fits, passed file a before after (h .none) .values)
 
       pub plan-laid : areas d t i f ≡ laid (frames (circuitOf file)) (a .plan)
       unfolding leftBy
@@ -92,7 +92,7 @@ module _ (file : List ℕ) {a : engine.Areas} {before after : ℕ} (h : Asked fi
           record {
             read = h .read;
             times = t;
-            suits = rw (ld, lt, li, lf) (passed file h .suits);
+            suits = rw (ld, lt, li, lf) (passed file a before after (h .none) .suits);
             fit = plan-fits;
             is = plan-laid ∙ rw (ld, lt, li, lf);
           }

@@ -13,3 +13,4 @@ pub mod Laid
 pub mod Valued
 pub mod Running
 pub mod Gating
+pub mod Watching

@@ -6,7 +6,7 @@ use mathlib.Core.Path.{_≡_, refl, sym, ap, ap₂, _∙_}
 use mathlib.Core.List.{List, [], _∷_, _++_, flatMap, flatten, append-assoc, append-nil}
 use native.Mathlib.Omega.{arith}
 use lib.ListN.{length, getD, take, replicate, length-append}
-use lib.Seq.{take-suc}
+use lib.Seq.{take-suc, take-length}
 use Rattle.lists.specs.Tables.{tabulateFrom, tabulate}
 use Rattle.lists.specs.Areas.{padded}
 use Rattle.lists.proofs.Flat.{flatten-append}
@@ -57,6 +57,12 @@ module _ (c : Circuit) (before after : List ℕ) where
       ∙ length-append (flatten (tabulate n words)) (words n)
       ∙ ap₂ _+_ (words-before n (omega arith)) (word-each n)
       ∙ sym (ap length (times-next (frames c) n h) ∙ length-append (allTimes (take n (frames c))) (framesAt c n .times))
+
+  pub all-words : length (allValues c before after) ≡ length (allTimes (frames c))
+  unfolding allValues
+  all-words =
+      words-before (netCount c) (omega (arith, nets-count c))
+      ∙ ap (λ (l : List Frames). length (allTimes l)) (ap (λ (n : ℕ). take n (frames c)) (sym (nets-count c)) ∙ take-length (frames c))
 
   -- net n's words stand behind those of the nets before it
   words-behind : (n size : ℕ) → n < netCount c → {area : List ℕ} → area ≡ padded size (allValues c before after)

@@ -1,26 +1,24 @@
 -- The words of one gate put into the values area: the raw words first, then the filtered ones in their place.
 -- Assumes nothing.
-use Prim.Native.Nat.{ℕ, zero, suc, _+_, _-_, _*_, _<_, _≤_}
+use Prim.Native.Nat.{ℕ, suc, _+_, _-_, _*_, _<_, _≤_}
 use mathlib.Core.Path.{_≡_, refl, sym, ap, _∙_}
-use mathlib.Core.Bool.{Bool, true, false, Bool·beq}
+use mathlib.Core.Bool.{Bool, false, Bool·beq}
 use mathlib.Core.Logic.{inl, inr}
 use mathlib.Core.List.{List, [], _∷_, _++_, map, append-assoc}
 use native.Mathlib.Omega.{arith}
 use lib.ListN.{length, getD, take, drop, length-map, length-drop}
-use lib.Seq.{sets, sets-eq, length-take-le, take-at, drop-at, drop-drop, ext-getD}
+use lib.Seq.{sets, sets-eq, length-take-le, take-at, drop-at, ext-getD}
 use borrow.Rule.Slice.PartMut.{putMid}
 use borrow.Author.Tests.{eq-eqb}
-use Rattle.lists.specs.Tables.{tabulate, tabulateFrom}
 use Rattle.lists.proofs.Choices.{either}
 use Rattle.lists.proofs.Tabled.{from-length, from-ext, tabulate-at}
-use Rattle.method.specs.declared.Kind.{Kind}
 use Rattle.method.specs.Filter.{keep, filterFrom, filtered}
 use Rattle.method.specs.Words.{lanes, lane, pack}
 use Rattle.method.proofs.Bits.{getD-lane, pack-lt, pack-lane, pack-is}
 use Rattle.circuit.specs.declared.GateRecord.{GateRecord}
 use Rattle.planner.specs.Layout.{firstFrame, frameCount, partOf}
 use Rattle.words.specs.Filtered.{filteredWords}
-use Rattle.engine.specs.Steps.{gateWord, target, sourceAt, sources, rawWords, Raw, basesOf, Bases, gateWords, Ready}
+use Rattle.engine.specs.Steps.{gateWord, target, rawWords, Raw, basesOf, Bases, gateWords, Ready}
 use Rattle.engine.proofs.Writing.{raw-length, raw-at}
 
 -- ---- an array that holds the bases

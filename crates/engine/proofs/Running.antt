@@ -3,13 +3,13 @@
 use Prim.Native.Nat.{ℕ, _+_, _-_, _*_, _≤_}
 use mathlib.Core.Path.{_≡_, refl, sym, ap₂, _∙_}
 use mathlib.Core.Bool.{true, false}
-use mathlib.Core.List.{List, [], _∷_, _++_}
+use mathlib.Core.List.{List, [], _++_}
 use native.Mathlib.Omega.{arith}
 use lib.ListN.{length, take, drop}
 use borrow.Author.Tests.{ne-eqb}
-use Rattle.lists.specs.Ladder.{Question, firstNo, unless}
+use Rattle.lists.specs.Ladder.{firstNo, unless}
 use Rattle.lists.specs.Areas.{cleared}
-use Rattle.lists.proofs.Ladders.{Numbered, numbered-append, first, first-here, first-most, firstNo-append, ask-yes, ask-no, all-asked, unless-none, unless-some}
+use Rattle.lists.proofs.Ladders.{Numbered, numbered-append, numbered-more, first, first-here, first-most, firstNo-append, ask-yes, ask-no, all-asked, unless-none, unless-some}
 use Rattle.method.specs.Frames.{frames}
 use Rattle.circuit.specs.File.{inputsOf, gatesOf, circuitOf}
 use Rattle.circuit.specs.Questions as reader
@@ -31,11 +31,6 @@ use Rattle.engine.proofs.Valued.{holds-inputs, values-are, rest-cleared
 
 -- ---- the ladder
 
--- numbers up to the least are up to the most
-numbered-more : (least most : ℕ) → least ≤ most → (qs : List Question) → Numbered least qs → Numbered most qs
-numbered-more least most h [] n = tt
-numbered-more least most h (q ∷ qs) n = (n .0, omega (arith, n .1), numbered-more least most h qs (n .2))
-
 module _ (file : List ℕ) (a : Areas) (before after : ℕ) where
   first-numbered : Numbered 11 (firstQuestions file a before after)
   unfolding firstQuestions
@@ -44,7 +39,13 @@ module _ (file : List ℕ) (a : Areas) (before after : ℕ) where
       (numbered-more 9 11 (omega arith) (reader.questions file) (questions-numbered file))
       (omega arith, omega arith, (omega arith, omega arith, tt))
 
-  joined : firstNo (questions file a before after) ≡ first (firstNo (firstQuestions file a before after)) (firstNo (lastQuestion file))
+  pub all-numbered : Numbered 13 (questions file a before after)
+  unfolding questions
+  all-numbered =
+      numbered-append 13 (firstQuestions file a before after) (lastQuestion file)
+      (numbered-more 11 13 (omega arith) (firstQuestions file a before after) first-numbered) (omega arith, omega arith, tt)
+
+  pub joined : firstNo (questions file a before after) ≡ first (firstNo (firstQuestions file a before after)) (firstNo (lastQuestion file))
   unfolding questions
   joined = firstNo-append 11 (firstQuestions file a before after) (lastQuestion file) first-numbered
 
@@ -109,7 +110,7 @@ module _ (file before after : List ℕ) {d t i f v : List ℕ} (h : Asked file (
         → outcome (onPaper (Q.Planned totals)) (areas d′ t′ i′ f′ (take (totals .frames) v2 ++ (ys ++ drop (length v2 - totals .frames) (drop (totals .frames) v2)))) ≡ runOf file before after (areas d t i f v)
     unfolding filled
     simulate-yes {v1} {v2} {ys} w g l z =
-        let all = values-are file before after ni ng (g before after (holds-inputs file before after ni (passed file h .before-each) w)) in
+        let all = values-are file before after ni ng (g before after (holds-inputs file before after ni (passed file (areas d t i f v) (length before) (length after) (h .none) .before-each) w)) in
         let values = rest-cleared v2 (totals .frames) l (plan-room file h e q) (rw (← plan-frames file h e q) at all) z in
         ap₂ (λ (x : planner.Areas) (y : List ℕ). outcome (onPaper (Q.Planned totals)) (record { plan = x; values = y })) (plan-laid file h e q) values
         ∙ rw (plan-totals file h e q) (run-yes file before after (areas d t i f v) h (plan-fits file h e q))

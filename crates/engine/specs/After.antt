@@ -33,6 +33,7 @@ timesOf a n = partOf (a .plan .directory) (a .plan .times) n
 abbrev pub valuesOf : Areas → ℕ → List ℕ
 valuesOf a n = partOf (a .plan .directory) (a .values) n
 
+-- the last time at which a caller can look
 abbrev pub lastTime : ℕ
 lastTime = 65535
 
@@ -41,21 +42,22 @@ pub record After (file before after : List ℕ) (a : Areas) : Type 0 where
   pub some-frame : (n : ℕ) → n < netCount (circuitOf file) → 1 ≤ getD (a .plan .directory) (2 * n + 1) 0
   pub few-frames : (n : ℕ) → n < netCount (circuitOf file) → getD (a .plan .directory) (2 * n + 1) 0 ≤ 64
   pub inside : (n : ℕ) → n < netCount (circuitOf file) → getD (a .plan .directory) (2 * n) 0 + getD (a .plan .directory) (2 * n + 1) 0 ≤ 2048
-  -- Level answers on these parts, and what it answers is the machine's level, run for the lane's pattern pair by itself
-  pub level-is-machine : (n L t : ℕ) → n < netCount (circuitOf file) → L < 64 → t ≤ lastTime
+  -- Level answers on these parts, and what it answers is the machine's level, run for the lane's pattern pair by itself; at
+  -- every time t, so at those from 0 to 65,535
+  pub level-is-machine : (n L t : ℕ) → n < netCount (circuitOf file) → L < 64
       → levelOf (timesOf a n) (valuesOf a n) L t ≡ accepted (machine (circuitOf file) (laneOf L before after) n t)
   -- Count answers the number of times from 1 to 65,535 at which the machine's level differs from that one unit earlier
   pub count-is-machine : (n L : ℕ) → n < netCount (circuitOf file) → L < 64
       → countOf (timesOf a n) (valuesOf a n) L ≡ accepted (changedTimes (machine (circuitOf file) (laneOf L before after) n) lastTime)
   -- where Level's answers at t + 1 and at t differ, t + 1 is among the net's entries in the times area
-  pub changes-at-times : (n L t : ℕ) → n < netCount (circuitOf file) → L < 64 → suc t ≤ lastTime
+  pub changes-at-times : (n L t : ℕ) → n < netCount (circuitOf file) → L < 64
       → levelOf (timesOf a n) (valuesOf a n) L (suc t) ≢ levelOf (timesOf a n) (valuesOf a n) L t → among (suc t) (timesOf a n) ≡ true
   -- and these entries are the net's potential times
   pub times-are-potential : (n t : ℕ) → n < netCount (circuitOf file) → among t (timesOf a n) ≡ potential (circuitOf file) n t
 
 -- two accepted runs of one file whose words agree in lane L, whatever the other lanes hold and whatever stood in the areas
 pub record Alike (file : List ℕ) (L : ℕ) (a a′ : Areas) : Type 0 where
-  pub same-level : (n t : ℕ) → n < netCount (circuitOf file) → t ≤ lastTime
+  pub same-level : (n t : ℕ) → n < netCount (circuitOf file)
       → levelOf (timesOf a n) (valuesOf a n) L t ≡ levelOf (timesOf a′ n) (valuesOf a′ n) L t
   pub same-count : (n : ℕ) → n < netCount (circuitOf file)
       → countOf (timesOf a n) (valuesOf a n) L ≡ countOf (timesOf a′ n) (valuesOf a′ n) L

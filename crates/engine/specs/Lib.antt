@@ -7,4 +7,5 @@ pub mod Questions
 pub mod Run
 pub mod Look
 pub mod After
+pub mod Looking
 pub mod Steps

@@ -155,3 +155,8 @@ inputWords before after n = flatten (tabulate n (λ (i : ℕ). repacked (getD be
 pub record Asked (file : List ℕ) (a : Areas) (before after : ℕ) : Type 0 where
   pub read : readOf file ≡ accepted (record { inputs = inputsOf file; gates = gatesOf file })
   pub none : firstNo (firstQuestions file a before after) ≡ 0
+
+-- where net n has a pair in the directory, its parts lie within the areas
+pub record Inside (d t v : List ℕ) (n : ℕ) : Type 0 where
+  pub times : 2 * n + 1 < length d → firstFrame d n + frameCount d n ≤ length t
+  pub values : 2 * n + 1 < length d → firstFrame d n + frameCount d n ≤ length v

@@ -3,12 +3,14 @@ ghost use mathlib.Core.Path.{_≡_};
 ghost use lib.ListN.{length};
 ghost use Rattle.lists.specs.Ladder.{firstNo};
 ghost use Rattle.circuit.specs.File.{inputsOf, gatesOf};
+ghost use Rattle.planner.specs.Layout.{partOf};
 ghost use Rattle.planner.specs.Plan.{onPaper};
 ghost use Rattle.engine.specs.Areas.{areas};
 ghost use Rattle.engine.specs.Questions.{firstQuestions, ownQuestions};
 ghost use Rattle.engine.specs.Run.{outcome, runOf};
 ghost use Rattle.engine.specs.Look.{levelOf, countOf, seenOnPaper, countedOnPaper};
-ghost use Rattle.engine.specs.Steps.{Asked};
+ghost use Rattle.engine.specs.Looking.{looked, lookOf};
+ghost use Rattle.engine.specs.Steps.{Asked, Inside};
 
 mod gates;
 mod looking;
@@ -19,6 +21,7 @@ use gates::all_gates;
 use gates::input_words;
 use looking::changes;
 use looking::look_fault;
+use method::Net;
 use method::Time;
 use planner::Planning;
 
@@ -193,4 +196,56 @@ pub fn count(times: &[u16], values: &[u64], lane: u8) -> Counted
         return Counted::Refused(fault);
     }
     Counted::Changes(changes(values, lane))
+}
+
+// Runs, and then looks at one net in one lane at one time: Run's questions, then Level's of the net's parts.
+pub fn look(
+    file: &[u8],
+    directory: &mut [u16],
+    times: &mut [u16],
+    inertial: &mut [u16],
+    fanins: &mut [u16],
+    values: &mut [u64],
+    before: &[u64],
+    after: &[u64],
+    net: Net,
+    lane: u8,
+    time: Time,
+) -> Seen
+    ensures { λ r. ⌜ looked (seenOnPaper r) (areas (now (directory .exit)) (now (times .exit)) (now (inertial .exit)) (now (fanins .exit)) (now (values .exit))) ≡ lookOf (now (file .entry)) (now (before .entry)) (now (after .entry)) (areas (now (directory .entry)) (now (times .entry)) (now (inertial .entry)) (now (fanins .entry)) (now (values .entry))) (net .0) lane (time .0) ⌝ }
+{
+    match run(
+        file,
+        directory,
+        times,
+        inertial,
+        fanins,
+        values,
+        before,
+        after,
+    ) {
+        Planning::Refused(n) => Seen::Refused(n),
+        Planning::Planned(_) => level_of(directory, times, values, net, lane, time),
+    }
+}
+
+// Level on the parts of a net, which are empty if it has no pair.
+fn level_of(
+    directory: &[u16],
+    times: &[u16],
+    values: &[u64],
+    net: Net,
+    lane: u8,
+    time: Time,
+) -> Seen
+    requires { ⌜ Inside (now directory) (now times) (now values) (net .0) ⌝ }
+    ensures { λ r. ⌜ seenOnPaper r ≡ levelOf (partOf (now (directory .entry)) (now (times .entry)) (net .0)) (partOf (now (directory .entry)) (now (values .entry)) (net .0)) lane (time .0) ⌝ }
+{
+    let pair = 2 * (net.0 as usize);
+    if directory.len() <= pair + 1 {
+        return Seen::Refused(14);
+    }
+    let first = directory[pair] as usize;
+    let end = first + directory[pair + 1] as usize;
+    level(&times[first..end], &values[first..end], lane, time)
 }

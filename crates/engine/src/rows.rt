@@ -2,10 +2,10 @@
 ghost use mathlib.Core.Path.{_≡_};
 ghost use mathlib.Core.Bool.{true};
 ghost use mathlib.Core.List.{[], _∷_};
-ghost use Prim.Native.Nat.{_*_, _<_};
+ghost use Prim.Native.Nat.{_<_};
 ghost use lib.ListN.{length};
 ghost use lib.Seq.{sets};
-ghost use Rattle.method.specs.Kinds.{mostFanins, takes};
+ghost use Rattle.method.specs.Kinds.{takes};
 ghost use Rattle.engine.specs.Steps.{Points, Raw, Row, gateWord, rawWords, ruleOf, sourceAt, sources};
 use method::Kind;
 

@@ -1,9 +1,10 @@
--- What the entries of a list give, one after the other; and a part of a list, behind what stands before it.
+-- What the entries of a list give, one after the other, in rows of equal width too; and a part of a list, behind what stands before it.
 -- Assumes nothing.
-use Prim.Native.Nat.{ℕ, zero, suc, _+_, _≤_, _<_}
+use Prim.Native.Nat.{ℕ, zero, suc, _+_, _*_, _≤_, _<_}
 use mathlib.Core.Path.{_≡_, refl, sym, ap, _∙_}
 use mathlib.Core.List.{List, [], _∷_, _++_, map, flatMap, flatten, append-assoc, append-nil}
 use native.Mathlib.Omega.{arith}
+use native.Mathlib.Nat.{zero-mul, suc-mul}
 use lib.ListN.{length, getD, take, drop, length-append, List·getD-append}
 use lib.Seq.{split-at, take-append-seam, drop-append-seam, getD-append-add}
 
@@ -53,3 +54,19 @@ module _ {A : Type 0} {w : List A} (pre x rest : List A) (is : w ≡ pre ++ (x +
 
   pub seam-room : length pre + length x ≤ length w
   seam-room = rw is (omega (arith, length-append pre (x ++ rest), length-append x rest))
+
+-- a table whose rows are m wide: how much it has, and entry e of row k
+module _ {A : Type 0} (g : A → List ℕ) (m : ℕ) (wide : (x : A) → length (g x) ≡ m) where
+  pub table-length : (xs : List A) → length (flatten (map g xs)) ≡ length xs * m
+  unfolding flatten
+  table-length [] = sym (zero-mul m)
+  table-length (x ∷ xs) = omega (arith, length-append (g x) (flatten (map g xs)), wide x, table-length xs, suc-mul (length xs) m)
+
+  pub table-at : (xs : List A) (none : A) (k e : ℕ) → k < length xs → e < m → getD (flatten (map g xs)) (k * m + e) 0 ≡ getD (g (getD xs k none)) e 0
+  unfolding flatten
+  table-at [] none k e h l = absurd (omega arith)
+  table-at (x ∷ xs) none zero e h l =
+      rw (let q : 0 * m + e ≡ e = omega (arith, zero-mul m) in q) (List·getD-append (g x) (flatten (map g xs)) 0 e (omega (arith, wide x)))
+  table-at (x ∷ xs) none (suc k) e h l =
+      rw (let q : suc k * m + e ≡ length (g x) + (k * m + e) = omega (arith, wide x, suc-mul k m) in q)
+      (getD-append-add (g x) (flatten (map g xs)) (k * m + e) 0 ∙ table-at xs none k e (omega arith) l)

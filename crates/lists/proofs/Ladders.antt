@@ -29,6 +29,11 @@ pub numbered-append : (most : ℕ) (ps qs : List Question) → Numbered most ps 
 numbered-append most [] qs h k = k
 numbered-append most (p ∷ ps) qs h k = (h .0, h .1, numbered-append most ps qs (h .2) k)
 
+-- numbers up to the least are up to the most
+pub numbered-more : (least most : ℕ) → least ≤ most → (qs : List Question) → Numbered least qs → Numbered most qs
+numbered-more least most h [] n = tt
+numbered-more least most h (q ∷ qs) n = (n .0, omega (arith, n .1), numbered-more least most h qs (n .2))
+
 pub first-most : (most : ℕ) (qs : List Question) → Numbered most qs → firstNo qs ≤ most
 unfolding firstNo
 first-most most [] h = omega arith

@@ -7,8 +7,8 @@ use mathlib.Core.List.{List, [], _∷_, _++_}
 use native.Mathlib.Omega.{arith}
 use native.Mathlib.Nat.{add-zero, add-suc}
 use native.Mathlib.Numerals.{add-one}
-use lib.ListN.{length, getD, drop, set, length-set, drop-of-length-le}
-use lib.Seq.{sets, set-out, drop-cons}
+use lib.ListN.{length, getD, take, drop, set, length-set, length-append, drop-of-length-le}
+use lib.Seq.{sets, sets-eq, set-out, drop-cons, take-at, length-take-le}
 
 -- past the end of the area nothing is stored
 pub sets-out : (area : List ℕ) (i : ℕ) (row : List ℕ) → length area ≤ i → sets area i row ≡ area
@@ -40,3 +40,9 @@ full {area₀} {row} {area} {at} {k} f h = sym (f .is ∙ sets-out area (at + k)
 pub sets-append : (area : List ℕ) (i : ℕ) (xs ys : List ℕ) → sets area i (xs ++ ys) ≡ sets (sets area i xs) (i + length xs) ys
 sets-append area i [] ys = rw add-zero
 sets-append area i (x ∷ xs) ys = sets-append (set area i x) (suc i) xs ys ∙ rw (let q : suc i + length xs ≡ i + suc (length xs) = omega arith in q)
+
+-- the front of an area, up to the end of a row that is stored in it
+pub take-stored : (area row : List ℕ) (n : ℕ) → n + length row ≤ length area → take (n + length row) (sets area n row) ≡ take n area ++ row
+take-stored area row n h =
+    rw (sets-eq row area n h)
+    (take-at (take n area ++ row) (drop (n + length row) area) (n + length row) (length-append (take n area) row ∙ rw (length-take-le n area (omega arith))))

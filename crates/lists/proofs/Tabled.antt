@@ -8,6 +8,7 @@ use native.Mathlib.Omega.{arith}
 use native.Mathlib.Nat.{add-zero, zero-add, suc-add}
 use native.Mathlib.Numerals.{add-one}
 use lib.ListN.{length, getD}
+use lib.Seq.{ext-getD}
 use Rattle.lists.specs.Tables.{tabulateFrom, tabulate, every}
 use Rattle.lists.proofs.Choices.{here-or-later, and-left, and-right, and-both}
 
@@ -89,3 +90,15 @@ module _ {A : Type 0} (p : A → Bool) where
   every-at [] e none d n = d
   every-at (x ∷ xs) e none d zero = and-left (p x) (every (map p xs)) e
   every-at (x ∷ xs) e none d (suc n) = every-at xs (and-right (p x) (every (map p xs)) e) none d n
+
+-- what a function makes of a table, and of a list entry by entry
+pub map-from : {A B : Type 0} (h : A → B) (n j : ℕ) (f : ℕ → A) → map h (tabulateFrom n j f) ≡ tabulateFrom n j (λ (i : ℕ). h (f i))
+unfolding tabulateFrom
+map-from h zero j f = refl
+map-from h (suc n) j f = ap (λ l. h (f j) ∷ l) (map-from h n (suc j) f)
+
+pub map-at : {B : Type 0} (h : ℕ → B) (xs : List ℕ) → map h xs ≡ tabulate (length xs) (λ (k : ℕ). h (getD xs k 0))
+map-at h xs = ap (map h) (whole xs) ∙ map-from h (length xs) 0 (λ (k : ℕ). getD xs k 0)
+  where
+    whole : (xs : List ℕ) → xs ≡ tabulate (length xs) (λ (k : ℕ). getD xs k 0)
+    whole xs = sym (ext-getD 0 _ xs (from-length (length xs) 0 _) (λ k l. tabulate-at (length xs) _ 0 k (rw (from-length (length xs) 0 _) at l)))

@@ -31,7 +31,7 @@ all-gates-requires c κs =
     let s = c .before .before .before .before .before .before .before .before .before .before .before .before .before .before .before .before .before .before .before .before .before .before .before .before .before .before .before .before .before .before .before .before .before in
     let p = c .before .before .before .before .before .before .before .before .before .before .before .before .before .before .before .before .before .before .before .before .plan in
     let t = c .before .before .before .before .before .before .before .before .before .before .t .given .1 in
-    ((planned _ (s .pre .0) (p .ensures) t (p .kept .1 .0) (p .kept .1 .1 .0) (p .kept .1 .1 .1 .0) (p .kept .1 .1 .1 .1 .0), s .pre .1, s .pre .2), omega (arith, c .before .before .before .before .before .before .input-words .kept, passed _ (s .pre .0) .values))
+    ((planned _ (s .pre .0) (p .ensures) t (p .kept .1 .0) (p .kept .1 .1 .0) (p .kept .1 .1 .1 .0) (p .kept .1 .1 .1 .1 .0), s .pre .1, s .pre .2), omega (arith, c .before .before .before .before .before .before .input-words .kept, passed _ _ _ _ (s .pre .0 .none) .values))
 
 mul-clear-words : tie.Need-mul-clear-words
 mul-clear-words c = search needs

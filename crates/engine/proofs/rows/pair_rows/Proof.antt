@@ -3,7 +3,6 @@
 use Prim.Native.Nat.{_-_}
 use mathlib.Core.Path.{ap, _∙_}
 use native.Mathlib.Omega.{arith}
-use lib.ListN.{length-set}
 use Rattle.engine.specs.Steps.{gateWord}
 use Rattle.engine.proofs.Writing.{Written, written-none, written-row, written-more, written-all, row-points, pair-sources}
 use Rattle.engine.proofs.rows.pair_rows.Statement.{statement}

@@ -2,7 +2,6 @@
 -- Assumes nothing.
 use Prim.Native.Nat.{_-_}
 use native.Mathlib.Omega.{arith}
-use lib.ListN.{length-set}
 use Rattle.engine.proofs.Writing.{Written, written-none, written-row, written-more, written-all}
 use Rattle.engine.proofs.rows.wide_rows.Statement.{statement}
 use Rattle.engine.proofs.rows.wide_rows.Tie as tie
