@@ -24,54 +24,25 @@ pub(crate) fn rule_of(kind: Kind) -> Rule
     ensures { λ r. ⌜ r ≡ ruleOf kind ⌝ }
 {
     match kind {
-        Kind::Buf => Rule {
-            kind: Kind::Buf,
-            turn: 0,
-            exact: 0,
-            flip: 0,
-        },
-        Kind::Not => Rule {
-            kind: Kind::Not,
-            turn: 0,
-            exact: 0,
-            flip: ALL,
-        },
-        Kind::And => Rule {
-            kind: Kind::And,
-            turn: ALL,
-            exact: 0,
-            flip: ALL,
-        },
-        Kind::Nand => Rule {
-            kind: Kind::Nand,
-            turn: ALL,
-            exact: 0,
-            flip: 0,
-        },
-        Kind::Or => Rule {
-            kind: Kind::Or,
-            turn: 0,
-            exact: 0,
-            flip: 0,
-        },
-        Kind::Nor => Rule {
-            kind: Kind::Nor,
-            turn: 0,
-            exact: 0,
-            flip: ALL,
-        },
-        Kind::Xor => Rule {
-            kind: Kind::Xor,
-            turn: 0,
-            exact: ALL,
-            flip: 0,
-        },
-        Kind::Xnor => Rule {
-            kind: Kind::Xnor,
-            turn: 0,
-            exact: ALL,
-            flip: ALL,
-        },
+        Kind::Buf => with_masks(kind, 0, 0, 0),
+        Kind::Not => with_masks(kind, 0, 0, ALL),
+        Kind::And => with_masks(kind, ALL, 0, ALL),
+        Kind::Nand => with_masks(kind, ALL, 0, 0),
+        Kind::Or => with_masks(kind, 0, 0, 0),
+        Kind::Nor => with_masks(kind, 0, 0, ALL),
+        Kind::Xor => with_masks(kind, 0, ALL, 0),
+        Kind::Xnor => with_masks(kind, 0, ALL, ALL),
+    }
+}
+
+fn with_masks(kind: Kind, turn: u64, exact: u64, flip: u64) -> Rule
+    ensures { λ r. ⌜ r ≡ record { kind = kind; turn = turn; exact = exact; flip = flip } ⌝ }
+{
+    Rule {
+        kind,
+        turn,
+        exact,
+        flip,
     }
 }
 
