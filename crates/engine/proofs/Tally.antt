@@ -1,15 +1,15 @@
--- The raw word of one frame, from its fan-ins' words: how many entries are 1 is tallied in every lane at once, "one or more"
--- and "two or more", and a kind's masks make its function of that.
+-- The raw word of one frame, from its fan-ins' words, 64 lanes at once: the lanes in which some entry is 1, each turned, or
+-- those in which exactly one is; flipped or not, that is the gate's function in every lane.
 -- Assumes nothing.
-use Prim.Native.Nat.{ℕ, zero, suc, _+_, _^_, _<_}
+use Prim.Native.Nat.{ℕ, zero, suc, _^_, _<_}
 use mathlib.Core.Path.{_≡_, refl, sym, ap, _∙_}
 use mathlib.Core.Logic.{inl, inr}
-use mathlib.Core.Bool.{Bool, true, false, not, _&&_, _||_, Bool·beq, or-false, and-false, and-true}
-use mathlib.Core.List.{List, [], _∷_, _++_, map}
+use mathlib.Core.Bool.{Bool, true, false, not, _&&_, _||_, Bool·beq, or-false, and-false, or-assoc, true≢false, false≢true}
+use mathlib.Core.List.{List, [], _∷_, _++_, map, map-map}
 use native.Mathlib.Omega.{arith}
 use lib.Dec.{leb, eqb, lit<}
 use lib.ListN.{length, getD, length-map}
-use lib.Bits.{bitAnd, bitOr, bitXor, and-lt, or-lt, xor-lt}
+use lib.Bits.{bitAnd, bitOr, bitXor, xor-lt}
 use borrow.Author.Tests.{le-leb, ne-eqb, eqb-true}
 use Rattle.lists.specs.Tables.{every, some}
 use Rattle.lists.proofs.Choices.{either}
@@ -19,20 +19,45 @@ use Rattle.method.specs.Kinds.{ones, gateFn, takes}
 use Rattle.method.specs.Words.{lanes, lane}
 use Rattle.method.proofs.Bits.{and-lane, or-lane, xor-lane, not-lane, zero-lane, pack-is}
 use Rattle.engine.specs.declared.rows.Rule.{Rule}
-use Rattle.engine.specs.Steps.{gateWord, mask, turned, exact, flipped, ruleOf}
+use Rattle.engine.specs.Steps.{SomeOf, OneOf, gateWord, mask, turned, exact, flipped, ruleOf}
 
--- ---- the tally
+abbrev xor : Bool → Bool → Bool
+xor a b = not (Bool·beq a b)
 
--- how many of these words, each turned, are 1 in lane L
-abbrev high : ℕ → ℕ → List ℕ → ℕ
-high L turn ws = ones (map (λ (w : ℕ). lane L (bitXor w turn)) ws)
+map-snoc : {A B : Type 0} (f : A → B) (xs : List A) (x : A) → map f (xs ++ (x ∷ [])) ≡ map f xs ++ (f x ∷ [])
+map-snoc f [] x = refl
+map-snoc f (y ∷ xs) x = ap (λ l. f y ∷ l) (map-snoc f xs x)
 
-pub record Tally (turn : ℕ) (ws : List ℕ) (one more : ℕ) : Type 0 where
-  pub one-is : (L : ℕ) → lane L one ≡ leb 1 (high L turn ws)
-  pub more-is : (L : ℕ) → lane L more ≡ leb 2 (high L turn ws)
+-- ---- some entry, turned
 
-pub tally-none : (turn : ℕ) → Tally turn [] 0 0
-tally-none turn = record { one-is = zero-lane; more-is = zero-lane }
+pub some-none : (turn : ℕ) → SomeOf turn [] 0
+some-none turn = record { is = zero-lane }
+
+some-snoc : (bs : List Bool) (b : Bool) → some (bs ++ (b ∷ [])) ≡ some bs || b
+some-snoc [] b = or-false b
+some-snoc (c ∷ bs) b = ap (λ (x : Bool). c || x) (some-snoc bs b) ∙ sym (or-assoc c (some bs) b)
+
+-- a word more
+pub some-more : {turn word : ℕ} {ws : List ℕ} → SomeOf turn ws word → (w : ℕ) → SomeOf turn (ws ++ (w ∷ [])) (bitOr word (bitXor w turn))
+some-more {turn} {word} {ws} t w =
+    record {
+      is = λ L.
+          or-lane L word (bitXor w turn)
+          ∙ rw (t .is L, xor-lane L w turn, map-snoc (λ (w : ℕ). xor (lane L w) (lane L turn)) ws w) (sym (some-snoc (map (λ (w : ℕ). xor (lane L w) (lane L turn)) ws) (xor (lane L w) (lane L turn))));
+    }
+
+pub some-pair : (turn x y : ℕ) → SomeOf turn (x ∷ y ∷ []) (bitOr (bitXor x turn) (bitXor y turn))
+some-pair turn x y =
+    record { is = λ L. or-lane L (bitXor x turn) (bitXor y turn) ∙ rw (xor-lane L x turn, xor-lane L y turn, or-false (xor (lane L y) (lane L turn))) }
+
+-- ---- exactly one entry: the tally of "one or more" and "two or more"
+
+pub record Tally (ws : List ℕ) (one more : ℕ) : Type 0 where
+  pub one-is : (L : ℕ) → lane L one ≡ leb 1 (ones (map (lane L) ws))
+  pub more-is : (L : ℕ) → lane L more ≡ leb 2 (ones (map (lane L) ws))
+
+pub tally-none : Tally [] 0 0
+tally-none = record { one-is = zero-lane; more-is = zero-lane }
 
 one-more : (c : ℕ) → leb 1 c || true ≡ leb 1 (suc c)
 one-more c = rw (le-leb 1 (suc c) (omega arith)) (elim (either (leb 1 c)) [ inl e ↦ rw e | inr e ↦ rw e ])
@@ -51,55 +76,37 @@ ones-no [] b e = rw e
 ones-no (true ∷ bs) b e = ap suc (ones-no bs b e)
 ones-no (false ∷ bs) b e = ones-no bs b e
 
-map-snoc : {A B : Type 0} (f : A → B) (xs : List A) (x : A) → map f (xs ++ (x ∷ [])) ≡ map f xs ++ (f x ∷ [])
-map-snoc f [] x = refl
-map-snoc f (y ∷ xs) x = ap (λ l. f y ∷ l) (map-snoc f xs x)
-
--- a word more
-pub tally-more : {turn one more : ℕ} {ws : List ℕ} → Tally turn ws one more → (w : ℕ)
-    → Tally turn (ws ++ (w ∷ [])) (bitOr one (bitXor w turn)) (bitOr more (bitAnd one (bitXor w turn)))
-tally-more {turn} {one} {more} {ws} t w =
+pub tally-more : {one more : ℕ} {ws : List ℕ} → Tally ws one more → (w : ℕ) → Tally (ws ++ (w ∷ [])) (bitOr one w) (bitOr more (bitAnd one w))
+tally-more {one} {more} {ws} t w =
     record {
-      one-is = λ L. or-lane L one x ∙ rw (t .one-is L, map-snoc (f L) ws w) (elim (either (f L w)) [
-        | inl e ↦ rw (ones-yes (map (f L) ws) (f L w) e, e) (one-more (high L turn ws))
-        | inr e ↦ rw (ones-no (map (f L) ws) (f L w) e, e) (or-false (leb 1 (high L turn ws)))
+      one-is = λ L. or-lane L one w ∙ rw (t .one-is L, map-snoc (lane L) ws w) (elim (either (lane L w)) [
+        | inl e ↦ rw (ones-yes (map (lane L) ws) (lane L w) e, e) (one-more (ones (map (lane L) ws)))
+        | inr e ↦ rw (ones-no (map (lane L) ws) (lane L w) e, e) (or-false (leb 1 (ones (map (lane L) ws))))
       ]);
-      more-is = λ L. or-lane L more (bitAnd one x) ∙ rw (and-lane L one x, t .one-is L, t .more-is L, map-snoc (f L) ws w) (elim (either (f L w)) [
-        | inl e ↦ rw (ones-yes (map (f L) ws) (f L w) e, e) (two-more (high L turn ws))
-        | inr e ↦ rw (ones-no (map (f L) ws) (f L w) e, e, and-false) (or-false (leb 2 (high L turn ws)))
+      more-is = λ L. or-lane L more (bitAnd one w) ∙ rw (and-lane L one w, t .one-is L, t .more-is L, map-snoc (lane L) ws w) (elim (either (lane L w)) [
+        | inl e ↦ rw (ones-yes (map (lane L) ws) (lane L w) e, e) (two-more (ones (map (lane L) ws)))
+        | inr e ↦ rw (ones-no (map (lane L) ws) (lane L w) e, e, and-false) (or-false (leb 2 (ones (map (lane L) ws))))
       ]);
     }
-  where
-    x : ℕ
-    x = bitXor w turn
 
-    f : ℕ → ℕ → Bool
-    f L w = lane L (bitXor w turn)
+just-one : (c : ℕ) → xor (leb 1 c) (leb 2 c) ≡ eqb c 1
+just-one zero = refl
+just-one (suc zero) = refl
+just-one (suc (suc c)) = rw (le-leb 1 (suc (suc c)) (omega arith), le-leb 2 (suc (suc c)) (omega arith), ne-eqb (suc (suc c)) 1 (omega arith))
 
--- two words at once
-either-one : (a b : Bool) → a || b ≡ leb 1 (ones (a ∷ b ∷ []))
-either-one true true = refl
-either-one true false = refl
-either-one false true = refl
-either-one false false = refl
+pub tally-one : {ws : List ℕ} {one more : ℕ} → Tally ws one more → OneOf ws (bitXor one more)
+tally-one {ws} {one} {more} t = record { is = λ L. xor-lane L one more ∙ rw (t .one-is L, t .more-is L) (just-one (ones (map (lane L) ws))) }
 
-both-two : (a b : Bool) → a && b ≡ leb 2 (ones (a ∷ b ∷ []))
-both-two true true = refl
-both-two true false = refl
-both-two false true = refl
-both-two false false = refl
+one-of-two : (a b : Bool) → xor a b ≡ eqb (ones (a ∷ b ∷ [])) 1
+one-of-two true true = refl
+one-of-two true false = refl
+one-of-two false true = refl
+one-of-two false false = refl
 
-pub tally-pair : (turn x y : ℕ) → Tally turn (x ∷ y ∷ []) (bitOr (bitXor x turn) (bitXor y turn)) (bitAnd (bitXor x turn) (bitXor y turn))
-tally-pair turn x y =
-    record {
-      one-is = λ L. or-lane L (bitXor x turn) (bitXor y turn) ∙ either-one (lane L (bitXor x turn)) (lane L (bitXor y turn));
-      more-is = λ L. and-lane L (bitXor x turn) (bitXor y turn) ∙ both-two (lane L (bitXor x turn)) (lane L (bitXor y turn));
-    }
+pub one-pair : (x y : ℕ) → OneOf (x ∷ y ∷ []) (bitXor x y)
+one-pair x y = record { is = λ L. xor-lane L x y ∙ one-of-two (lane L x) (lane L y) }
 
--- ---- what a kind makes of it, on bits
-
-abbrev xor : Bool → Bool → Bool
-xor a b = not (Bool·beq a b)
+-- ---- what a kind makes of them, on bits
 
 xor-false : (a : Bool) → xor a false ≡ a
 xor-false true = refl
@@ -109,28 +116,17 @@ xor-true : (a : Bool) → xor a true ≡ not a
 xor-true true = refl
 xor-true false = refl
 
-just-one : (c : ℕ) → xor (leb 1 c) (leb 2 c) ≡ eqb c 1
-just-one zero = refl
-just-one (suc zero) = refl
-just-one (suc (suc c)) = rw (le-leb 1 (suc (suc c)) (omega arith), le-leb 2 (suc (suc c)) (omega arith), ne-eqb (suc (suc c)) 1 (omega arith))
-
 abbrev turnedBits : Bool → List Bool → List Bool
 turnedBits b bs = map (λ (x : Bool). xor x b) bs
 
-ones-same : (bs : List Bool) → ones (turnedBits false bs) ≡ ones bs
-ones-same [] = refl
-ones-same (true ∷ bs) = ap suc (ones-same bs)
-ones-same (false ∷ bs) = ones-same bs
+same-bits : (bs : List Bool) → turnedBits false bs ≡ bs
+same-bits [] = refl
+same-bits (b ∷ bs) = rw (xor-false b, same-bits bs)
 
-some-ones : (bs : List Bool) → leb 1 (ones bs) ≡ some bs
-some-ones [] = refl
-some-ones (true ∷ bs) = le-leb 1 (suc (ones bs)) (omega arith)
-some-ones (false ∷ bs) = some-ones bs
-
-every-ones : (bs : List Bool) → not (leb 1 (ones (turnedBits true bs))) ≡ every bs
-every-ones [] = refl
-every-ones (true ∷ bs) = every-ones bs
-every-ones (false ∷ bs) = ap not (le-leb 1 (suc (ones (turnedBits true bs))) (omega arith))
+every-some : (bs : List Bool) → not (some (turnedBits true bs)) ≡ every bs
+every-some [] = refl
+every-some (true ∷ bs) = every-some bs
+every-some (false ∷ bs) = refl
 
 not-not : (a : Bool) → not (not a) ≡ a
 not-not true = refl
@@ -141,18 +137,27 @@ first-only [] e = absurd (omega arith)
 first-only (b ∷ []) e = or-false b
 first-only (b ∷ c ∷ bs) e = absurd (omega arith)
 
--- a gate's function, by its tally
-made : (k : Kind) (bs : List Bool) → takes k (length bs) ≡ true
-    → xor (xor (leb 1 (ones (turnedBits (turned k) bs))) (leb 2 (ones (turnedBits (turned k) bs)) && exact k)) (flipped k) ≡ gateFn k bs
+by-some : (k : Kind) (bs : List Bool) → takes k (length bs) ≡ true → exact k ≡ false → xor (some (turnedBits (turned k) bs)) (flipped k) ≡ gateFn k bs
 unfolding turned exact flipped gateFn takes
-made Buf bs e = rw (and-false, xor-false, xor-false, ones-same bs, some-ones bs) (first-only bs (eqb-true (length bs) 1 e))
-made Not bs e = rw (and-false, xor-false, xor-true, ones-same bs, some-ones bs) (ap not (first-only bs (eqb-true (length bs) 1 e)))
-made And bs e = rw (and-false, xor-false, xor-true) (every-ones bs)
-made Nand bs e = rw (and-false, xor-false, xor-false) (sym (ap not (sym (every-ones bs)) ∙ not-not (leb 1 (ones (turnedBits true bs)))))
-made Or bs e = rw (and-false, xor-false, xor-false, ones-same bs) (some-ones bs)
-made Nor bs e = rw (and-false, xor-false, xor-true, ones-same bs) (ap not (some-ones bs))
-made Xor bs e = rw (and-true, xor-false, ones-same bs) (just-one (ones bs))
-made Xnor bs e = rw (and-true, xor-true, ones-same bs) (ap not (just-one (ones bs)))
+by-some Buf bs e x = rw (xor-false, same-bits bs) (first-only bs (eqb-true (length bs) 1 e))
+by-some Not bs e x = rw (xor-true, same-bits bs) (ap not (first-only bs (eqb-true (length bs) 1 e)))
+by-some And bs e x = rw xor-true (every-some bs)
+by-some Nand bs e x = rw xor-false (sym (ap not (sym (every-some bs)) ∙ not-not (some (turnedBits true bs))))
+by-some Or bs e x = rw (xor-false, same-bits bs)
+by-some Nor bs e x = rw (xor-true, same-bits bs)
+by-some Xor bs e x = absurd (true≢false x)
+by-some Xnor bs e x = absurd (true≢false x)
+
+by-one : (k : Kind) (bs : List Bool) → exact k ≡ true → xor (eqb (ones bs) 1) (flipped k) ≡ gateFn k bs
+unfolding exact flipped gateFn
+by-one Xor bs x = xor-false (eqb (ones bs) 1)
+by-one Xnor bs x = xor-true (eqb (ones bs) 1)
+by-one Buf bs x = absurd (false≢true x)
+by-one Not bs x = absurd (false≢true x)
+by-one And bs x = absurd (false≢true x)
+by-one Nand bs x = absurd (false≢true x)
+by-one Or bs x = absurd (false≢true x)
+by-one Nor bs x = absurd (false≢true x)
 
 -- ---- and on words
 
@@ -160,39 +165,33 @@ mask-lane : (b : Bool) (L : ℕ) → L < lanes → lane L (mask b) ≡ b
 mask-lane true L h = not-lane lanes L 0 h (lit< tt) ∙ ap not (zero-lane L)
 mask-lane false L h = zero-lane L
 
-high-is : (b : Bool) (L : ℕ) → L < lanes → (ws : List ℕ) → high L (mask b) ws ≡ ones (turnedBits b (map (lane L) ws))
-high-is b L h ws = ap ones (go ws)
-  where
-    go : (ws : List ℕ) → map (λ (w : ℕ). lane L (bitXor w (mask b))) ws ≡ turnedBits b (map (lane L) ws)
-    go [] = refl
-    go (w ∷ ws) = rw (xor-lane L w (mask b), mask-lane b L h, go ws)
-
-settled : (k : Kind) {ws : List ℕ} {one more : ℕ} → Tally (mask (turned k)) ws one more → takes k (length ws) ≡ true
-    → (w : ℕ) → w ≡ bitXor (bitXor one (bitAnd more (mask (exact k)))) (mask (flipped k)) → w < 2 ^ lanes → w ≡ gateWord k ws
-unfolding gateWord
-settled k {ws} {one} {more} t e w is h =
-    pack-is lanes w (λ (L : ℕ). gateFn k (map (lane L) ws)) h
-    (λ L l. rw (is, xor-lane L (bitXor one (bitAnd more (mask (exact k)))) (mask (flipped k)), xor-lane L one (bitAnd more (mask (exact k))), and-lane L more (mask (exact k)), mask-lane (exact k) L l, mask-lane (flipped k) L l, t .one-is L, t .more-is L, high-is (turned k) L l ws)
-    (made k (map (lane L) ws) (rw (length-map ws (lane L)) e)))
-
--- the same by a kind's rule: its masks are words
 mask-word : (b : Bool) → mask b < 2 ^ lanes
 mask-word true = lit< tt
 mask-word false = lit< tt
 
-pub by-rule : (r : Rule) → r ≡ ruleOf (r .kind) → {ws : List ℕ} {one more : ℕ} → Tally (r .turn) ws one more → takes (r .kind) (length ws) ≡ true → one < 2 ^ lanes → more < 2 ^ lanes
-    → bitXor (bitXor one (bitAnd more (r .exact))) (r .flip) ≡ gateWord (r .kind) ws
-by-rule r is {ws} {one} {more} t e a b =
-    let turn : r .turn ≡ mask (turned (r .kind)) = ap (λ (x : Rule). x .turn) is in
-    let ex : r .exact ≡ mask (exact (r .kind)) = ap (λ (x : Rule). x .exact) is in
-    let fl : r .flip ≡ mask (flipped (r .kind)) = ap (λ (x : Rule). x .flip) is in
-    settled (r .kind) (rw turn at t) e (bitXor (bitXor one (bitAnd more (r .exact))) (r .flip)) (rw (ex, fl))
-    (rw (ex, fl) (xor-lt lanes (bitXor one (bitAnd more (mask (exact (r .kind))))) (mask (flipped (r .kind)))
-    (xor-lt lanes one (bitAnd more (mask (exact (r .kind)))) a (and-lt lanes more (mask (exact (r .kind))) b (mask-word (exact (r .kind))))) (mask-word (flipped (r .kind)))))
+turned-bits : (b : Bool) (L : ℕ) → L < lanes → (ws : List ℕ) → map (λ (w : ℕ). xor (lane L w) (lane L (mask b))) ws ≡ turnedBits b (map (lane L) ws)
+turned-bits b L h ws = rw (mask-lane b L h) (sym (map-map (λ (x : Bool). xor x b) (lane L) ws))
 
--- the tally stays within 64 lanes
-pub one-word : {one : ℕ} (w turn : ℕ) → one < 2 ^ lanes → w < 2 ^ lanes → turn < 2 ^ lanes → bitOr one (bitXor w turn) < 2 ^ lanes
-one-word {one} w turn a b t = or-lt lanes one (bitXor w turn) a (xor-lt lanes w turn b t)
+module _ (r : Rule) (is : r ≡ ruleOf (r .kind)) where
+  flip-is : r .flip ≡ mask (flipped (r .kind))
+  flip-is = ap (λ (x : Rule). x .flip) is
 
-pub more-word : {one more : ℕ} (w turn : ℕ) → one < 2 ^ lanes → more < 2 ^ lanes → w < 2 ^ lanes → turn < 2 ^ lanes → bitOr more (bitAnd one (bitXor w turn)) < 2 ^ lanes
-more-word {one} {more} w turn a m b t = or-lt lanes more (bitAnd one (bitXor w turn)) m (and-lt lanes one (bitXor w turn) a (xor-lt lanes w turn b t))
+  exact-is : r .exact ≡ exact (r .kind)
+  exact-is = ap (λ (x : Rule). x .exact) is
+
+  turn-is : r .turn ≡ mask (turned (r .kind))
+  turn-is = ap (λ (x : Rule). x .turn) is
+
+  -- a word with the right lanes, flipped, is the gate's word
+  made : (ws : List ℕ) (word : ℕ) → word < 2 ^ lanes → ((L : ℕ) → L < lanes → xor (lane L word) (flipped (r .kind)) ≡ gateFn (r .kind) (map (lane L) ws)) → bitXor word (r .flip) ≡ gateWord (r .kind) ws
+  unfolding gateWord
+  made ws word h e =
+      pack-is lanes (bitXor word (r .flip)) (λ (L : ℕ). gateFn (r .kind) (map (lane L) ws)) (rw flip-is (xor-lt lanes word (mask (flipped (r .kind))) h (mask-word (flipped (r .kind)))))
+      (λ L l. xor-lane L word (r .flip) ∙ rw (flip-is, mask-lane (flipped (r .kind)) L l) (e L l))
+
+  pub made-some : r .exact ≡ false → {ws : List ℕ} {word : ℕ} → SomeOf (r .turn) ws word → takes (r .kind) (length ws) ≡ true → word < 2 ^ lanes → bitXor word (r .flip) ≡ gateWord (r .kind) ws
+  made-some x {ws} {word} t e h =
+      made ws word h (λ L l. rw (t .is L, turn-is, turned-bits (turned (r .kind)) L l ws) (by-some (r .kind) (map (lane L) ws) (rw (length-map ws (lane L)) e) (sym exact-is ∙ x)))
+
+  pub made-one : r .exact ≡ true → {ws : List ℕ} {word : ℕ} → OneOf ws word → word < 2 ^ lanes → bitXor word (r .flip) ≡ gateWord (r .kind) ws
+  made-one x {ws} {word} t h = made ws word h (λ L l. rw (t .is L) (by-one (r .kind) (map (lane L) ws) (sym exact-is ∙ x)))

@@ -1,14 +1,15 @@
 -- What the engine's own functions promise each other. A reader of Run's promise may skip this file.
 use Prim.Native.Nat.{ℕ, _+_, _*_, _<_, _≤_}
 use mathlib.Core.Path.{_≡_}
-use mathlib.Core.Bool.{Bool, true, false}
+use mathlib.Core.Bool.{Bool, true, false, not, Bool·beq}
 use mathlib.Core.List.{List, [], _∷_, map, flatten}
 use lib.ListN.{length, getD, take}
 use Rattle.lists.specs.Ladder.{accepted, firstNo}
-use Rattle.lists.specs.Tables.{tabulate}
+use lib.Dec.{eqb}
+use Rattle.lists.specs.Tables.{tabulate, some}
 use Rattle.method.specs.declared.Kind.{Kind}
 use Rattle.method.specs.declared.Kind.the-variants.{Buf, Not, And, Nand, Or, Nor, Xor, Xnor}
-use Rattle.method.specs.Kinds.{gateFn, mostFanins, takes}
+use Rattle.method.specs.Kinds.{ones, gateFn, mostFanins, takes}
 use Rattle.method.specs.Frames.{frames}
 use Rattle.method.specs.Words.{lanes, lane, pack}
 use Rattle.method.specs.Packed.{packedValues}
@@ -34,8 +35,8 @@ abbrev pub mask : Bool → ℕ
 mask true = 18446744073709551615
 mask false = 0
 
--- how a kind works on its entries: whether each is turned; whether exactly one has to be 1 then, or at least one; whether
--- the result is flipped
+-- how a kind works on its entries: whether exactly one has to be 1, or at least one, each turned; whether the result is
+-- flipped
 unfoldable pub turned : Kind → Bool
 turned And = true
 turned Nand = true
@@ -67,7 +68,15 @@ flipped Or = false
 flipped Xor = false
 
 abbrev pub ruleOf : Kind → Rule
-ruleOf k = record { kind = k; turn = mask (turned k); exact = mask (exact k); flip = mask (flipped k) }
+ruleOf k = record { kind = k; exact = exact k; turn = mask (turned k); flip = mask (flipped k) }
+
+-- r has the lanes in which some of these words, each turned, is 1
+pub record SomeOf (turn : ℕ) (words : List ℕ) (r : ℕ) : Type 0 where
+  pub is : (L : ℕ) → lane L r ≡ some (map (λ (w : ℕ). not (Bool·beq (lane L w) (lane L turn))) words)
+
+-- r has the lanes in which exactly one of these words is 1
+pub record OneOf (words : List ℕ) (r : ℕ) : Type 0 where
+  pub is : (L : ℕ) → lane L r ≡ eqb (ones (map (lane L) words)) 1
 
 -- where entry e of the fan-in row at `at` points to, if the fan-ins' frames start at these bases; and the word there
 abbrev pub target : List ℕ → List ℕ → ℕ → ℕ → ℕ

@@ -6,17 +6,17 @@ ghost use Prim.Native.Nat.{_<_};
 ghost use lib.ListN.{length};
 ghost use lib.Seq.{sets};
 ghost use Rattle.method.specs.Kinds.{takes};
-ghost use Rattle.engine.specs.Steps.{Points, Raw, Row, gateWord, rawWords, ruleOf, sourceAt, sources};
+ghost use Rattle.engine.specs.Steps.{OneOf, Points, Raw, Row, SomeOf, gateWord, rawWords, ruleOf, sourceAt, sources};
 use method::Kind;
 
 const ALL: u64 = 18446744073709551615;
 
-// How a kind works on words: each entry is turned, then the lanes with an entry 1 are taken, or those with exactly one, and
-// the result is flipped. Each mask is all lanes or none, so that a kind needs no branch.
+// How a kind works on words: the lanes in which exactly one entry is 1, or else those in which some entry is, each entry
+// turned first; then the result flipped. To turn or flip is all lanes or none, so that eight kinds need two ways.
 pub(crate) struct Rule {
     kind: Kind,
+    exact: bool,
     turn: u64,
-    exact: u64,
     flip: u64,
 }
 
@@ -24,24 +24,24 @@ pub(crate) fn rule_of(kind: Kind) -> Rule
     ensures { λ r. ⌜ r ≡ ruleOf kind ⌝ }
 {
     match kind {
-        Kind::Buf => with_masks(kind, 0, 0, 0),
-        Kind::Not => with_masks(kind, 0, 0, ALL),
-        Kind::And => with_masks(kind, ALL, 0, ALL),
-        Kind::Nand => with_masks(kind, ALL, 0, 0),
-        Kind::Or => with_masks(kind, 0, 0, 0),
-        Kind::Nor => with_masks(kind, 0, 0, ALL),
-        Kind::Xor => with_masks(kind, 0, ALL, 0),
-        Kind::Xnor => with_masks(kind, 0, ALL, ALL),
+        Kind::Buf => rule_with(kind, false, 0, 0),
+        Kind::Not => rule_with(kind, false, 0, ALL),
+        Kind::And => rule_with(kind, false, ALL, ALL),
+        Kind::Nand => rule_with(kind, false, ALL, 0),
+        Kind::Or => rule_with(kind, false, 0, 0),
+        Kind::Nor => rule_with(kind, false, 0, ALL),
+        Kind::Xor => rule_with(kind, true, 0, 0),
+        Kind::Xnor => rule_with(kind, true, 0, ALL),
     }
 }
 
-fn with_masks(kind: Kind, turn: u64, exact: u64, flip: u64) -> Rule
-    ensures { λ r. ⌜ r ≡ record { kind = kind; turn = turn; exact = exact; flip = flip } ⌝ }
+fn rule_with(kind: Kind, exact: bool, turn: u64, flip: u64) -> Rule
+    ensures { λ r. ⌜ r ≡ record { kind = kind; exact = exact; turn = turn; flip = flip } ⌝ }
 {
     Rule {
         kind,
-        turn,
         exact,
+        turn,
         flip,
     }
 }
@@ -97,11 +97,11 @@ fn pair_word(rule: Rule, x: u64, y: u64) -> u64
     ensures { λ r. ⌜ r ≡ gateWord (rule .kind) (x ∷ y ∷ []) ⌝ }
 {
     let turn = rule.turn;
-    let exact = rule.exact;
     let flip = rule.flip;
-    let a = x ^ turn;
-    let b = y ^ turn;
-    ((a | b) ^ ((a & b) & exact)) ^ flip
+    if rule.exact {
+        return (x ^ y) ^ flip;
+    }
+    ((x ^ turn) | (y ^ turn)) ^ flip
 }
 
 // The raw words of a gate of any number of fan-ins.
@@ -127,7 +127,7 @@ fn wide_rows(
     }
 }
 
-// The raw word of a frame whose fan-in row starts at `at`: `one` are the lanes with an entry 1 so far, `more` those with two.
+// The raw word of a frame whose fan-in row starts at `at`.
 fn row_word(
     values: &[u64],
     bases: &[usize; 8],
@@ -139,19 +139,49 @@ fn row_word(
     requires { ⌜ Row (length (now values)) (now bases) (now fanins) at entries × (takes (rule .kind) entries ≡ true) × (rule ≡ ruleOf (rule .kind)) ⌝ }
     ensures { λ r. ⌜ r ≡ gateWord (rule .kind) (sources (now (values .entry)) (now (bases .entry)) (now (fanins .entry)) at entries) ⌝ }
 {
-    let turn = rule.turn;
-    let exact = rule.exact;
     let flip = rule.flip;
+    if rule.exact {
+        return one_of(values, bases, fanins, at, entries) ^ flip;
+    }
+    some_of(values, bases, fanins, at, entries, rule.turn) ^ flip
+}
+
+// The lanes in which some entry of the row is 1, each turned.
+fn some_of(
+    values: &[u64],
+    bases: &[usize; 8],
+    fanins: &[u16],
+    at: usize,
+    entries: usize,
+    turn: u64,
+) -> u64
+    requires { ⌜ Row (length (now values)) (now bases) (now fanins) at entries ⌝ }
+    ensures { λ r. ⌜ SomeOf turn (sources (now (values .entry)) (now (bases .entry)) (now (fanins .entry)) at entries) r ⌝ }
+{
+    let mut word: u64 = 0;
+    let mut e = 0;
+    while e < entries {
+        word = word | (source(values, bases, fanins, at, e) ^ turn);
+        e += 1;
+    }
+    word
+}
+
+// The lanes in which exactly one entry of the row is 1: `one` are those with one or more so far, `more` those with two.
+fn one_of(values: &[u64], bases: &[usize; 8], fanins: &[u16], at: usize, entries: usize) -> u64
+    requires { ⌜ Row (length (now values)) (now bases) (now fanins) at entries ⌝ }
+    ensures { λ r. ⌜ OneOf (sources (now (values .entry)) (now (bases .entry)) (now (fanins .entry)) at entries) r ⌝ }
+{
     let mut one: u64 = 0;
     let mut more: u64 = 0;
     let mut e = 0;
     while e < entries {
-        let word = source(values, bases, fanins, at, e) ^ turn;
+        let word = source(values, bases, fanins, at, e);
         more = more | (one & word);
         one = one | word;
         e += 1;
     }
-    (one ^ (more & exact)) ^ flip
+    one ^ more
 }
 
 // The word that entry e of the fan-in row at `at` points to.

@@ -1,20 +1,23 @@
--- `engine::rows::pair_word` meets its contract. The tally of two words, by the rule.
+-- `engine::rows::pair_word` meets its contract. By the rule, of two words.
 -- Assumes nothing.
 use native.Mathlib.Omega.{arith}
-use lib.Bits.{bitXor, and-lt, or-lt, xor-lt}
+use lib.Bits.{bitXor, or-lt, xor-lt}
 use Rattle.method.specs.Words.{lanes}
-use Rattle.engine.proofs.Tally.{tally-pair, by-rule}
+use Rattle.engine.proofs.Tally.{some-pair, one-pair, made-some, made-one}
 use Rattle.engine.proofs.rows.pair_word.Statement.{statement}
 use Rattle.engine.proofs.rows.pair_word.Tie as tie
 
 returns : tie.Need-returns
-returns c =
-    let r = c .args .rule in
-    let x = c .args .x in
-    let y = c .args .y in
-    let a = xor-lt lanes x (r .turn) (omega arith) (omega arith) in
-    let b = xor-lt lanes y (r .turn) (omega arith) (omega arith) in
-    by-rule r (c .pre .1) (tally-pair (r .turn) x y) (c .pre .0) (or-lt lanes (bitXor x (r .turn)) (bitXor y (r .turn)) a b) (and-lt lanes (bitXor x (r .turn)) (bitXor y (r .turn)) a b)
+returns c = 
+    let s = c .before .args in
+    made-one (s .rule) (c .before .pre .1) (c .if1 .taken) (one-pair (s .x) (s .y)) (xor-lt lanes (s .x) (s .y) (omega arith) (omega arith))
+
+returns-2 : tie.Need-returns-2
+returns-2 c = 
+    let s = c .before .args in
+    let t = s .rule .turn in
+    made-some (s .rule) (c .before .pre .1) (c .if1 .left) (some-pair t (s .x) (s .y)) (c .before .pre .0)
+    (or-lt lanes (bitXor (s .x) t) (bitXor (s .y) t) (xor-lt lanes (s .x) t (omega arith) (omega arith)) (xor-lt lanes (s .y) t (omega arith) (omega arith)))
 
 pub pair-word-spec : {M : Type 1} → statement M
-pair-word-spec = tie.close (tie.spec returns)
+pair-word-spec = tie.close (tie.spec returns returns-2)
