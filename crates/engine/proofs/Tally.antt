@@ -138,7 +138,7 @@ first-only (b ∷ []) e = or-false b
 first-only (b ∷ c ∷ bs) e = absurd (omega arith)
 
 by-some : (k : Kind) (bs : List Bool) → takes k (length bs) ≡ true → exact k ≡ false → xor (some (turnedBits (turned k) bs)) (flipped k) ≡ gateFn k bs
-unfolding turned exact flipped gateFn takes
+unfolding gateFn takes
 by-some Buf bs e x = rw (xor-false, same-bits bs) (first-only bs (eqb-true (length bs) 1 e))
 by-some Not bs e x = rw (xor-true, same-bits bs) (ap not (first-only bs (eqb-true (length bs) 1 e)))
 by-some And bs e x = rw xor-true (every-some bs)
@@ -149,7 +149,7 @@ by-some Xor bs e x = absurd (true≢false x)
 by-some Xnor bs e x = absurd (true≢false x)
 
 by-one : (k : Kind) (bs : List Bool) → exact k ≡ true → xor (eqb (ones bs) 1) (flipped k) ≡ gateFn k bs
-unfolding exact flipped gateFn
+unfolding gateFn
 by-one Xor bs x = xor-false (eqb (ones bs) 1)
 by-one Xnor bs x = xor-true (eqb (ones bs) 1)
 by-one Buf bs x = absurd (false≢true x)

@@ -37,7 +37,7 @@ mask false = 0
 
 -- how a kind works on its entries: whether exactly one has to be 1, or at least one, each turned; whether the result is
 -- flipped
-unfoldable pub turned : Kind → Bool
+abbrev pub turned : Kind → Bool
 turned And = true
 turned Nand = true
 turned Buf = false
@@ -47,7 +47,7 @@ turned Nor = false
 turned Xor = false
 turned Xnor = false
 
-unfoldable pub exact : Kind → Bool
+abbrev pub exact : Kind → Bool
 exact Xor = true
 exact Xnor = true
 exact Buf = false
@@ -57,7 +57,7 @@ exact Nand = false
 exact Or = false
 exact Nor = false
 
-unfoldable pub flipped : Kind → Bool
+abbrev pub flipped : Kind → Bool
 flipped Not = true
 flipped And = true
 flipped Nor = true

@@ -6,7 +6,7 @@ ghost use Prim.Native.Nat.{_<_};
 ghost use lib.ListN.{length};
 ghost use lib.Seq.{sets};
 ghost use Rattle.method.specs.Kinds.{takes};
-ghost use Rattle.engine.specs.Steps.{OneOf, Points, Raw, Row, SomeOf, gateWord, rawWords, ruleOf, sourceAt, sources};
+ghost use Rattle.engine.specs.Steps.{OneOf, Points, Raw, Row, SomeOf, exact, flipped, gateWord, mask, rawWords, ruleOf, sourceAt, sources, turned};
 use method::Kind;
 
 const ALL: u64 = 18446744073709551615;
@@ -23,26 +23,62 @@ pub(crate) struct Rule {
 pub(crate) fn rule_of(kind: Kind) -> Rule
     ensures { λ r. ⌜ r ≡ ruleOf kind ⌝ }
 {
-    match kind {
-        Kind::Buf => rule_with(kind, false, 0, 0),
-        Kind::Not => rule_with(kind, false, 0, ALL),
-        Kind::And => rule_with(kind, false, ALL, ALL),
-        Kind::Nand => rule_with(kind, false, ALL, 0),
-        Kind::Or => rule_with(kind, false, 0, 0),
-        Kind::Nor => rule_with(kind, false, 0, ALL),
-        Kind::Xor => rule_with(kind, true, 0, 0),
-        Kind::Xnor => rule_with(kind, true, 0, ALL),
-    }
-}
-
-fn rule_with(kind: Kind, exact: bool, turn: u64, flip: u64) -> Rule
-    ensures { λ r. ⌜ r ≡ record { kind = kind; exact = exact; turn = turn; flip = flip } ⌝ }
-{
+    let exact = is_exact(kind);
+    let turn = turn_of(kind);
+    let flip = flip_of(kind);
     Rule {
         kind,
         exact,
         turn,
         flip,
+    }
+}
+
+// Whether exactly one entry has to be 1. A table for each of the three: one for all makes a jump that is guessed wrong.
+fn is_exact(kind: Kind) -> bool
+    ensures { λ r. ⌜ r ≡ exact kind ⌝ }
+{
+    match kind {
+        Kind::Buf => false,
+        Kind::Not => false,
+        Kind::And => false,
+        Kind::Nand => false,
+        Kind::Or => false,
+        Kind::Nor => false,
+        Kind::Xor => true,
+        Kind::Xnor => true,
+    }
+}
+
+// AND is 1 where no entry, turned, is 1.
+fn turn_of(kind: Kind) -> u64
+    ensures { λ r. ⌜ r ≡ mask (turned kind) ⌝ }
+{
+    match kind {
+        Kind::Buf => 0,
+        Kind::Not => 0,
+        Kind::And => ALL,
+        Kind::Nand => ALL,
+        Kind::Or => 0,
+        Kind::Nor => 0,
+        Kind::Xor => 0,
+        Kind::Xnor => 0,
+    }
+}
+
+// The complements, and AND, which is one of its turned entries.
+fn flip_of(kind: Kind) -> u64
+    ensures { λ r. ⌜ r ≡ mask (flipped kind) ⌝ }
+{
+    match kind {
+        Kind::Buf => 0,
+        Kind::Not => ALL,
+        Kind::And => ALL,
+        Kind::Nand => 0,
+        Kind::Or => 0,
+        Kind::Nor => ALL,
+        Kind::Xor => 0,
+        Kind::Xnor => ALL,
     }
 }
 

@@ -36,7 +36,7 @@ loop-again : tie.Need-loop-again Inv-loop μ-loop
 loop-again c = (omega arith, rw (add-one (c .before .before .loop .e), tabulate-snoc (c .before .before .loop .e) _, c .source .ensures) (tally-more (c .before .before .loop .inv .1) _))
 
 returns : tie.Need-returns Inv-loop μ-loop
-returns c = 
+returns c =
     let q : c .before .loop .e ≡ c .before .before .before .before .args .entries = omega arith in
     tally-one (rw q at (c .before .loop .inv .1))
 

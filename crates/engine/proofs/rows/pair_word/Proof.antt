@@ -8,12 +8,12 @@ use Rattle.engine.proofs.rows.pair_word.Statement.{statement}
 use Rattle.engine.proofs.rows.pair_word.Tie as tie
 
 returns : tie.Need-returns
-returns c = 
+returns c =
     let s = c .before .args in
     made-one (s .rule) (c .before .pre .1) (c .if1 .taken) (one-pair (s .x) (s .y)) (xor-lt lanes (s .x) (s .y) (omega arith) (omega arith))
 
 returns-2 : tie.Need-returns-2
-returns-2 c = 
+returns-2 c =
     let s = c .before .args in
     let t = s .rule .turn in
     made-some (s .rule) (c .before .pre .1) (c .if1 .left) (some-pair t (s .x) (s .y)) (c .before .pre .0)
