@@ -3,8 +3,9 @@
 
 Each case is a circuit file whose reading is known by the way it is made: a circuit within the limits, or one fault put
 into its file, or two, where the earlier question wins. Nothing here reads a file back. What Plan must answer and leave is
-worked out below by document 01's rules, net by net, with sets and counts and none of the program's ways. Run it from the
-repository's root; building and testing need none of it.
+worked out below by document 01's rules, net by net, with sets and counts and none of the program's ways. What Run must
+leave in the values is worked out lane by lane with Bools, and compared with the time-by-time machine in some lanes of every
+case, at every time of every net. Run it from the repository's root; building and testing need none of it.
 """
 import random
 
@@ -35,7 +36,7 @@ def file_of(inputs, records, shift={}, lengths={}, tail=b""):
 
 # ---- Plan, by the rules
 
-LENGTHS = (320, 2048, 2048, 16384)
+LENGTHS, VALUES = (320, 2048, 2048, 16384), 2048
 
 
 def frames(inputs, records):
@@ -50,9 +51,8 @@ def frames(inputs, records):
     return nets
 
 
-def plan(inputs, records):
-    """What Plan prints of an accepted file: the totals or 13, and the areas."""
-    nets = frames(inputs, records)
+def plan(nets):
+    """What Plan prints of an accepted file with these frames: the totals or 13, and the areas."""
     total = sum(len(times) for times, _, _ in nets)
     if any(len(times) > 64 for times, _, _ in nets) or total > 2048:
         return "refused 13", [[0] * n for n in LENGTHS]
@@ -71,6 +71,99 @@ def plan(inputs, records):
     return answer, [a + [0] * (n - len(a)) for a, n in zip(areas, LENGTHS)]
 
 
+# ---- Run, Level and Count, each lane by itself
+
+
+def words_from(number, count):
+    """The words that the program makes from a case's number."""
+    word, words = number * 2654435761 ^ 88172645463325252, []
+    for _ in range(count):
+        word ^= word << 13 & 2**64 - 1
+        word ^= word >> 7
+        word ^= word << 17 & 2**64 - 1
+        words.append(word)
+    return words
+
+
+def outputs(r):
+    """A gate's output for each number of ones among its entries. The kinds come in pairs, the second the complement."""
+    m = len(r.fanins)
+    first = [(ones == 1, ones == m, ones > 0, ones == 1)[r.kind // 2] for ones in range(m + 1)]
+    return [output != (r.kind % 2 == 1) for output in first]
+
+
+def evaluate(nets, records, pairs):
+    """The levels of one lane, net by net and frame by frame: raw, then filtered. A pair is an input's before and after."""
+    levels = [list(pair) for pair in pairs]
+    for r, (_, inertial, rows) in zip(records, nets[len(pairs):]):
+        output = outputs(r)
+        raw = [output[sum(levels[f][k] for f, k in zip(r.fanins, row))] for row in rows]
+        kept = raw[:1]
+        for k in range(1, len(raw)):
+            kept.append(kept[-1] if (not raw[k]) in raw[k + 1:k + 1 + inertial[k]] else raw[k])
+        levels.append(kept)
+    return levels
+
+
+def machine(records, pairs, until):
+    """The levels of one lane, net by net and time by time, by the machine that knows no frames."""
+    need = [until] * (len(pairs) + len(records))  # the last time to be known of each net
+    for j in reversed(range(len(records))):
+        for f in records[j].fanins:
+            need[f] = max(need[f], need[len(pairs) + j] + records[j].di - records[j].d)
+    waves = [[before] + [after] * need[i] for i, (before, after) in enumerate(pairs)]
+    for r in records:
+        output, end = outputs(r), need[len(waves)]
+        raw = [output[sum(waves[f][max(t - r.d, 0)] for f in r.fanins)] for t in range(end + r.di + 1)]
+        wave = raw[:1]
+        for t in range(1, end + 1):
+            wave.append(raw[t] if len(set(raw[t:t + r.di + 1])) == 1 else wave[-1])
+        waves.append(wave)
+    return [wave[:until + 1] for wave in waves]
+
+
+def level_at(times, levels, time):
+    return levels[max(k for k, t in enumerate(times) if t <= time)]
+
+
+def run(nets, records, before, after, checked):
+    """What Run prints of an accepted file, the areas with the values in quarters, and the values net by net. In the lanes to
+    be checked the machine has to agree at every time."""
+    answer, areas = plan(nets)
+    if answer == "refused 13":
+        return answer, areas + [[0] * 4 * VALUES], []
+    last, lanes = max(areas[1]), []
+    for lane in range(64):
+        pairs = [(b >> lane & 1 == 1, a >> lane & 1 == 1) for b, a in zip(before, after)]
+        lanes.append(evaluate(nets, records, pairs))
+        if lane in checked:
+            for (times, _, _), levels, wave in zip(nets, lanes[-1], machine(records, pairs, last + 1)):
+                assert wave == [level_at(times, levels, t) for t in range(last + 2)]
+    values = [[sum(level << lane for lane, level in enumerate(frame)) for frame in zip(*net)] for net in zip(*lanes)]
+    quarters = [word >> shift & 65535 for net in values for word in net for shift in (0, 16, 32, 48)]
+    return answer, areas + [quarters + [0] * (4 * VALUES - len(quarters))], values
+
+
+def look(times, values, lane, time):
+    """What Level and Count print."""
+    no = (14 if len(times) != len(values) or len(times) not in range(1, 65) else
+          15 if times != sorted({0, *times}) else 16 if lane > 63 else 0)
+    if no:
+        return f"refused {no}", f"refused {no}"
+    levels = "".join(str(value >> lane & 1) for value in values)
+    return level_at(times, levels, time), str(levels.count("01") + levels.count("10"))
+
+
+def looks(times, values):
+    """What is printed of a net: in three lanes six levels and the count."""
+    middle, last = times[len(times) // 2], times[-1]
+    seen = [[look(times, values, lane, t) for t in (0, middle - 1, middle, last - 1, last, 65535)] for lane in (0, 31, 63)]
+    return "".join(f" {''.join(level for level, _ in lane)} {lane[0][1]}" for lane in seen)
+
+
+# ---- the lines
+
+
 def sums(areas):
     out = []
     for area in areas:
@@ -82,19 +175,25 @@ def sums(areas):
 
 
 def untouched(lengths):
-    return [[7] * n for n in lengths]
+    return [[7] * n for n in lengths[:4]] + [[7, 0, 0, 0] * n for n in lengths[4:]]
 
 
 def good(inputs, records):
-    answer, areas = plan(inputs, records)
-    cases.append((file_of(inputs, records), f"accepted {inputs} {len(records)}; {answer} {sums(areas)}; refused 10"))
+    nets, turn = frames(inputs, records), len(cases)
+    words = words_from(turn, 2 * inputs)  # for the before list and the after list in turn
+    checked = range(turn % 8, 64, 8 if len(records) < 128 else 64)
+    answer, areas, values = run(nets, records, words[0::2], words[1::2], checked)
+    seen = ";" + looks(nets[-1][0], values[-1]) if values else ""
+    cases.append((file_of(inputs, records), f"accepted {inputs} {len(records)}; {answer} {sums(areas[:4])}; refused 10; "
+                  f"{answer} {sums(areas)}{seen}; refused 11; refused 11; refused 10"))
 
 
 def bad(data, number):
-    cases.append((data, f"refused {number}; refused {number} {sums(untouched(LENGTHS))}; refused {number}"))
+    no, areas = f"refused {number}", untouched(LENGTHS + (VALUES,))
+    cases.append((data, f"{no}; {no} {sums(areas[:4])}; {no}; {no} {sums(areas)}; {no}; {no}; {no}"))
 
 
-BUF, NOT, AND, OR, XNOR = 0, 1, 2, 4, 7
+BUF, NOT, AND, OR, XOR, XNOR = 0, 1, 2, 4, 6, 7
 buf = Record(BUF, 1, 0, [0])
 
 # questions 1 to 4
@@ -162,10 +261,53 @@ bad(file_of(1, [Record(NOT, 1, 0, [1]), Record(8, 0, 0, [0])]), 9)
 bad(file_of(1, [Record(8, 1, 0, [0])], tail=b"\0"), 5)
 bad(file_of(1, [buf, Record(BUF, 64, 0, [9]), Record(8, 1, 0, [0])]), 7)
 
-# bench sheet: fan-in times {0,3,4} and {0,2,6}, d = 3, di = 2 (rows A to C), and the wave circuit
+# bench sheet: fan-in times {0,3,4} and {0,2,6}, d = 3, di = 2 (rows A to C)
 good(1, [Record(BUF, 1, 0, [0]), Record(BUF, 2, 0, [0]), Record(BUF, 3, 0, [0]), Record(BUF, 4, 0, [0]),
          Record(OR, 1, 0, [1, 2]), Record(OR, 1, 0, [0, 4]), Record(XNOR, 3, 2, [5, 6])])
-good(1, [Record(NOT, 2, 0, [0]), Record(AND, 1, 1, [0, 1])])
+
+
+def bench(records, times, levels):
+    """A circuit whose last net has these times, and in a lane that rises these levels."""
+    nets = frames(1, records)
+    assert nets[-1][0] == times and evaluate(nets, records, [(False, True)])[-1] == [level == 1 for level in levels]
+    good(1, records)
+
+
+def wave_circuit(di):
+    return [Record(NOT, 2, 0, [0]), Record(AND, 1, di, [0, 1])]
+
+
+def step(time):
+    return Record(BUF, time - 1, 0, [0])
+
+
+bench([step(4), step(6), Record(XOR, 1, 2, [1, 2])], [0, 5, 7], [0, 0, 0])  # row D
+bench([step(4), step(6), Record(XOR, 1, 1, [1, 2])], [0, 5, 7], [0, 1, 0])  # E
+bench([step(3), step(4), Record(XOR, 1, 0, [1, 2]), step(6), Record(OR, 1, 1, [3, 4])], [0, 5, 6, 7], [0, 0, 0, 1])  # F
+bench([step(2), step(5), Record(XNOR, 1, 3, [1, 2])], [0, 3, 6], [1, 1, 1])  # G
+bench([step(3), step(5), Record(XOR, 1, 0, [1, 2]), step(4), Record(XOR, 1, 0, [4, 4]), Record(OR, 1, 2, [3, 5])],
+      [0, 5, 6, 7], [0, 0, 0, 0])  # H
+bench(wave_circuit(1), [0, 2, 4], [0, 1, 0])
+bench(wave_circuit(2), [0, 2, 4], [0, 0, 0])  # I
+bench([step(2), Record(XOR, 1, 0, [1, 1, 1])], [0, 3], [0, 0])  # J
+
+
+def pulses(di):
+    """A net with 48 changes where its input changes: pulses of 1 to 3 times, 1 to 3 apart, of which a delay leaves some."""
+    gates, at = [], 2
+    for width, gap in ((1, 1), (2, 1), (3, 2), (1, 3), (2, 2), (3, 1), (1, 2), (2, 3)):
+        gates += [step(at), step(at + width), Record(XOR, 1, 0, [len(gates) + 1, len(gates) + 2])]
+        at += width + gap
+    gates.append(Record(OR, 1, 0, list(range(3, 25, 3))))
+    return gates + [Record(BUF, d, 0, [25]) for d in (1, 31, 61)] + [Record(OR, 1, di, [26, 27, 28])]
+
+
+for di in range(5):
+    good(1, pulses(di))
+
+# every kind of gate on 2 to 8 nets
+for _ in range(4):
+    good(8, [Record(kind, 1, 0, list(range(m))) for kind in range(AND, XNOR + 1) for m in range(2, 9)])
 
 # a net twice in a list, and the last net not the latest
 good(1, [buf, Record(AND, 5, 9, [0, 1, 0, 1]), Record(XNOR, 1, 63, [0, 0])])
@@ -242,22 +384,71 @@ for turn in range(60):
     }[fault]
     bad(file_of(inputs, [Record(*g) for g in c]), fault)
 
+
+def lively(inputs, gates, span):
+    """Short delays and few fan-ins, from the nets just before, so that levels change often."""
+    records = []
+    for net in range(inputs, inputs + gates):
+        nets = range(max(0, net - span), net)
+        kind = rng.choice([0, 1, 2, 3, 4, 5, 6, 6, 6, 7, 7, 7]) if len(nets) > 2 else BUF
+        fanins = rng.sample(nets, 1 if kind < 2 else rng.choice([2, 2, 2, 3]))
+        records.append(Record(kind, rng.randint(1, 4), rng.choice([0, 0, 0, 1, 1, 2, 3, 5]), fanins))
+    return records
+
+
+for size in ((1, 12, 4), (2, 12, 6), (4, 40, 10), (5, 60, 20), (8, 128, 60), (16, 128, 60), (32, 128, 100), (8, 128, 160)):
+    for turn in range(3):
+        good(size[0], lively(*size))
+
+# ---- parts of a net, made up: times, values, lane, time
+
+three, words = [0, 5, 7], [2**31, 2**63 + 1, 2**31 + 1]
+parts = [([], [], 0, 0), ([], [0], 0, 0), ([0], [], 0, 0), ([0, 5], [0, 1, 0], 0, 5), (three, [0, 1], 0, 5),
+         ([5, 7], [0, 1, 0], 0, 5), ([5, 7], [0, 1, 0], 64, 5)]
+for times, lane, time in (([1], 0, 1), ([1, 2], 0, 1), ([0, 0], 0, 0), ([0, 5, 5], 0, 5), ([0, 5, 4], 0, 5),
+                          ([0, 5, 7, 7], 0, 0), ([0, 5, 7, 6], 0, 0), ([0, 256, 255, 257], 0, 0), ([0, 5, 5], 64, 5)):
+    parts.append((times, [0, 1, 0, 1][:len(times)], lane, time))
+parts += [(three, words, lane, 5) for lane in (64, 65, 127, 128, 255, 0, 1, 30, 31, 32, 62, 63)]
+parts += [(three, words, 63, time) for time in (0, 1, 4, 5, 6, 7, 8, 65535)]
+parts += [([0, 65534, 65535], words, 31, time) for time in (65533, 65534, 65535)]
+parts += [([0], words[:1], 31, time) for time in (0, 65535)]
+parts += [([0] * m, [0] * n, 0, 0) for m, n in ((64, 64), (65, 65), (64, 65), (65, 64))]
+
 # ---- written out
 
-lengths = [LENGTHS]
-for k in range(4):
-    for off in (-1, 1):
-        lengths.append(tuple(n + off * (i == k) for i, n in enumerate(LENGTHS)))
-lengths.append((0, 0, 0, 0))
+
+def around(lengths):
+    """The right lengths, then one of them too short or too long."""
+    places = range(len(lengths))
+    return [lengths] + [tuple(lengths[i] + off * (i == k) for i in places) for k in places for off in (-1, 1)]
+
+
+right = LENGTHS + (VALUES,)
+plan_lengths = around(LENGTHS) + [(0,) * 4]
+run_lengths = around(right + (1, 1)) + [right + (0, 0), right + (2, 2), LENGTHS + (0, 0, 0), (0,) * 7]
 
 with open("crates/cases/stdin", "wb") as f:
     for data, _ in cases:
         f.write(len(data).to_bytes(4, "little") + data)
     f.write((70001).to_bytes(4, "little"))  # one case too long ends the run
 with open("crates/cases/stdout", "w") as f:
-    for l in lengths:
-        answer, areas = plan(1, []) if l == LENGTHS else ("refused 10", untouched(l))
+    for l in plan_lengths:
+        answer, areas = plan(frames(1, [])) if l == LENGTHS else ("refused 10", untouched(l))
         f.write("lengths " + " ".join(map(str, l)) + f"; {answer} {sums(areas)}\n")
+    for l in run_lengths:
+        answer, areas = f"refused {10 if l[:5] != right else 11}", untouched(l[:5])
+        if l == right + (1, 1):
+            answer, areas, _ = run(frames(1, []), [], [3], [5], range(64))
+        f.write("run lengths " + " ".join(map(str, l)) + f"; {answer} {sums(areas)}\n")
+    for di in (1, 2):
+        nets = frames(1, wave_circuit(di))
+        answer, areas, values = run(nets, wave_circuit(di), [0], [1], range(64))
+        f.write(f"waves; {answer} {sums(areas)}")
+        for net, (times, _, _) in enumerate(nets):
+            f.write(f"; {net} " + " ".join(f"{t}={look(times, values[net], 0, t)[0]}" for t in times))
+        f.write("\n")
+    for times, values, lane, time in parts:
+        f.write(f"look {len(times)} {len(values)} {lane} {time}; " + "; ".join(look(times, values, lane, time)) + "\n")
     f.writelines(line + "\n" for _, line in cases)
     f.write("cut\n")
 print(len(cases), "cases,", sum("planned" in line for _, line in cases), "planned,", sum("refused 13" in line for _, line in cases), "refused with 13")

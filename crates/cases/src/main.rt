@@ -1,25 +1,38 @@
 // The test program. Standard input is a row of cases, each a length of four bytes, little-endian, and a circuit file of
 // that length. Standard output has a line a case: what the reader answers, `accepted I G` or `refused` and the number; what
 // Plan answers, `planned` and the three totals or `refused` and the number, with a sum of each area as Plan leaves it; and
-// what Plan answers where the directory is too short. It stops at the end of the input; where it stops before that, at a
-// case that is cut short or longer than 70,000 bytes or after a million cases, it prints `cut`. Before the cases come lines
-// for areas of other lengths.
+// what Plan answers where the directory is too short. Then what Run answers with words that the case's number gives, with a
+// sum of each area; what Level and Count answer for the last net, where there was a run; and what Run answers where a word
+// list or the values are too short. It stops at the end of the input; where it stops before that, at a case that is cut
+// short or longer than 70,000 bytes or after a million cases, it prints `cut`. Before the cases come lines for areas and
+// lists of other lengths, for a circuit whose waves are known, and for parts of a net that are made up.
 ghost use Prim.Native.Nat.{_<_};
 
+mod looks;
+mod patterns;
 mod plans;
+mod runs;
 
 use circuit::Reading;
 use libc::STDIN_FILENO;
 use libc::STDOUT_FILENO;
+use looks::looks_at_parts;
 use plans::lengths;
 use plans::show_plan;
+use plans::show_refused;
 use plans::show_short;
+use runs::run_lengths;
+use runs::show_runs;
+use runs::waves;
 
 fn main() {
     lengths();
+    run_lengths();
+    waves();
+    looks_at_parts();
     let mut turns: u32 = 0;
     while turns < 1000000 {
-        if !next_case() {
+        if !next_case(turns) {
             return;
         }
         turns += 1;
@@ -35,8 +48,8 @@ fn end_of_turns() {
     }
 }
 
-// One case. False at the end of the input.
-fn next_case() -> bool {
+// One case, with its number. False at the end of the input.
+fn next_case(turn: u32) -> bool {
     let mut head = [0u8; 4];
     let got = io::read_full(STDIN_FILENO, &mut head);
     if got == 0 {
@@ -46,7 +59,7 @@ fn next_case() -> bool {
         return cut();
     }
     let mut body = [0u8; 70000];
-    read_case(length_of(head), &mut body)
+    read_case(turn, length_of(head), &mut body)
 }
 
 fn length_of(head: [u8; 4]) -> usize {
@@ -59,15 +72,15 @@ fn wide(x: u8) -> usize
     x as usize
 }
 
-fn read_case(len: usize, body: &mut [u8]) -> bool {
+fn read_case(turn: u32, len: usize, body: &mut [u8]) -> bool {
     if body.len() < len {
         return cut();
     }
-    show_case(&mut body[0..len])
+    show_case(turn, &mut body[0..len])
 }
 
 // Fills the file from the input and prints its line.
-fn show_case(file: &mut [u8]) -> bool {
+fn show_case(turn: u32, file: &mut [u8]) -> bool {
     if io::read_full(STDIN_FILENO, file) < file.len() {
         return cut();
     }
@@ -76,6 +89,7 @@ fn show_case(file: &mut [u8]) -> bool {
     show_plan(file);
     io::write_all(STDOUT_FILENO, b";");
     show_short(file);
+    show_runs(turn, file);
     io::write_all(STDOUT_FILENO, b"\n");
     true
 }
@@ -88,10 +102,7 @@ fn show_reading(file: &[u8]) {
             io::write_all(STDOUT_FILENO, b" ");
             io::print_decimal(STDOUT_FILENO, gates as u64);
         }
-        Reading::Refused(number) => {
-            io::write_all(STDOUT_FILENO, b"refused ");
-            io::print_decimal(STDOUT_FILENO, number as u64);
-        }
+        Reading::Refused(number) => show_refused(number),
     }
 }
 

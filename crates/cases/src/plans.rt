@@ -21,10 +21,7 @@ fn plan_in(
     fanins: &mut [u16],
 ) {
     show_planning(planner::plan(file, directory, times, inertial, fanins));
-    show_sum(directory);
-    show_sum(times);
-    show_sum(inertial);
-    show_sum(fanins);
+    show_sums(directory, times, inertial, fanins);
 }
 
 // Plans the file in areas of which the directory is too short, and prints the answer.
@@ -74,7 +71,7 @@ fn show_lengths(directory: usize, times: usize, inertial: usize, fanins: usize)
     io::write_all(STDOUT_FILENO, b"\n");
 }
 
-fn show_planning(answer: Planning) {
+pub(crate) fn show_planning(answer: Planning) {
     match answer {
         Planning::Planned(totals) => {
             let last = totals.last;
@@ -84,15 +81,28 @@ fn show_planning(answer: Planning) {
             show_number(last.0 as u64);
         }
         Planning::Refused(number) => {
-            io::write_all(STDOUT_FILENO, b" refused");
-            show_number(number as u64);
+            io::write_all(STDOUT_FILENO, b" ");
+            show_refused(number);
         }
     }
 }
 
-fn show_number(n: u64) {
+pub(crate) fn show_refused(number: u8) {
+    io::write_all(STDOUT_FILENO, b"refused");
+    show_number(number as u64);
+}
+
+pub(crate) fn show_number(n: u64) {
     io::write_all(STDOUT_FILENO, b" ");
     io::print_decimal(STDOUT_FILENO, n);
+}
+
+// Prints a sum of each area that Plan fills.
+pub(crate) fn show_sums(directory: &[u16], times: &[u16], inertial: &[u16], fanins: &[u16]) {
+    show_sum(directory);
+    show_sum(times);
+    show_sum(inertial);
+    show_sum(fanins);
 }
 
 // Prints a sum in which each place of the area has a weight of its own.

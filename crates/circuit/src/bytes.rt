@@ -10,15 +10,18 @@ pub(crate) fn byte_at(file: &[u8], at: usize) -> u8
     if at < file.len() { file[at] } else { 0 }
 }
 
-// The two-byte number at a place.
+// The two-byte number at a place. Where both bytes are there, which is nearly always, one test of the place shows it.
 pub(crate) fn number_at(file: &[u8], at: usize) -> u16
     ensures { λ r. ⌜ r ≡ numberAt (now (file .entry)) at ⌝ }
 {
-    if file.len() <= at {
-        return 0;
+    if file.len() < 2 {
+        return byte_at(file, at) as u16;
     }
-    let low = byte_at(file, at);
-    let high = byte_at(file, at + 1);
+    if file.len() - 2 < at {
+        return byte_at(file, at) as u16;
+    }
+    let low = file[at];
+    let high = file[at + 1];
     low as u16 + 256 * (high as u16)
 }
 

@@ -14,6 +14,15 @@ abbrev μ-loop : tie.MeasureT-loop
 lengths-requires : tie.Need-lengths-requires Inv-loop μ-loop
 lengths-requires c κs = search needs
 
+run-lengths-requires : tie.Need-run-lengths-requires Inv-loop μ-loop
+run-lengths-requires c κs = search needs
+
+waves-requires : tie.Need-waves-requires Inv-loop μ-loop
+waves-requires c κs = search needs
+
+looks-at-parts-requires : tie.Need-looks-at-parts-requires Inv-loop μ-loop
+looks-at-parts-requires c κs = search needs
+
 loop-holds : tie.Need-loop-holds Inv-loop μ-loop
 loop-holds c = search needs
 
@@ -45,6 +54,9 @@ main-spec =
     Inv-loop
     μ-loop
     lengths-requires
+    run-lengths-requires
+    waves-requires
+    looks-at-parts-requires
     loop-holds
     next-case-requires
     returns

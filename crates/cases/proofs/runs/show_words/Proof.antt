@@ -1,0 +1,56 @@
+-- `show_words` meets its contract.
+-- Assumes nothing.
+use Prim.Native.Nat.{_-_}
+use lib.ListN.{length}
+use borrow.Author.Needs.{needs}
+use Rattle.cases.proofs.runs.show_words.Statement.{statement}
+use Rattle.cases.proofs.runs.show_words.Tie as tie
+
+abbrev Inv-loop : tie.InvT-loop
+Inv-loop words sum₀ k₀ sum k = Unit
+
+abbrev μ-loop : tie.MeasureT-loop
+μ-loop words sum₀ k₀ sum k = length words - k
+
+loop-holds : tie.Need-loop-holds Inv-loop μ-loop
+loop-holds c = search needs
+
+mul-with-word : tie.Need-mul-with-word Inv-loop μ-loop
+mul-with-word c = search needs
+
+shared-slice-read-with-word : tie.Need-shared-slice-read-with-word Inv-loop μ-loop
+shared-slice-read-with-word c = search needs
+
+with-word-requires : tie.Need-with-word-requires Inv-loop μ-loop
+with-word-requires c κs = search needs
+
+add-k : tie.Need-add-k Inv-loop μ-loop
+add-k c = search needs
+
+loop-less : tie.Need-loop-less Inv-loop μ-loop
+loop-less c = search needs
+
+loop-again : tie.Need-loop-again Inv-loop μ-loop
+loop-again c = search needs
+
+show-number-requires : tie.Need-show-number-requires Inv-loop μ-loop
+show-number-requires c κs = search needs
+
+returns : tie.Need-returns Inv-loop μ-loop
+returns c = search needs
+
+pub show-words-spec : {M : Type 1} → statement M
+show-words-spec =
+    tie.close
+    (tie.spec
+    Inv-loop
+    μ-loop
+    loop-holds
+    mul-with-word
+    shared-slice-read-with-word
+    with-word-requires
+    add-k
+    loop-less
+    loop-again
+    show-number-requires
+    returns)
