@@ -1,6 +1,6 @@
 -- The words of one gate put into the values area: the raw words first, then the filtered ones in their place.
 -- Assumes nothing.
-use Prim.Native.Nat.{ℕ, suc, _+_, _-_, _*_, _<_, _≤_}
+use Prim.Native.Nat.{ℕ, zero, suc, _+_, _-_, _*_, _<_, _≤_}
 use mathlib.Core.Path.{_≡_, refl, sym, ap, _∙_}
 use mathlib.Core.Bool.{Bool, false, Bool·beq}
 use mathlib.Core.Logic.{inl, inr}
@@ -16,21 +16,23 @@ use Rattle.method.specs.Filter.{keep, filterFrom, filtered}
 use Rattle.method.specs.Words.{lanes, lane, pack}
 use Rattle.method.proofs.Bits.{getD-lane, pack-lt, pack-lane, pack-is}
 use Rattle.circuit.specs.declared.GateRecord.{GateRecord}
+use Rattle.circuit.specs.File.{faninAt}
+use Rattle.engine.specs.declared.rows.Rule.{Rule}
 use Rattle.planner.specs.Layout.{firstFrame, frameCount, partOf}
 use Rattle.words.specs.Filtered.{filteredWords}
-use Rattle.engine.specs.Steps.{gateWord, target, rawWords, Raw, basesOf, Bases, gateWords, Ready}
+use Rattle.engine.specs.Steps.{gateWord, target, rawWords, Raw, basesOf, Bases, gateWords, Ready, ruleOf}
 use Rattle.engine.proofs.Writing.{raw-length, raw-at}
 
 -- ---- an array that holds the bases
 
-module _ {file d : List ℕ} {g : GateRecord} {bases : List ℕ} (b : Bases file d g bases) (f : List ℕ) where
+module _ {file d : List ℕ} (g : GateRecord) {bases : List ℕ} (b : Bases file d (g .list) (g .entries) bases) (f : List ℕ) where
   base-same : (e : ℕ) → e < g .entries → getD bases e 0 ≡ getD (basesOf file d g) e 0
   base-same e h = b .base e h ∙ sym (tabulate-at (g .entries) _ 0 e h)
 
   target-same : (at e : ℕ) → e < g .entries → target bases f at e ≡ target (basesOf file d g) f at e
   target-same at e h = ap (λ (n : ℕ). n + getD f (at + e) 0) (base-same e h)
 
-  pub raw-with : {size at first n : ℕ} → Raw size (basesOf file d g) f (g .kind) at (g .entries) first n → Raw size bases f (g .kind) at (g .entries) first n
+  raw-with : {size at first n : ℕ} → Raw size (basesOf file d g) f (g .kind) at (g .entries) first n → Raw size bases f (g .kind) at (g .entries) first n
   raw-with {size} {at} {first} {n} r =
       record {
         taken = r .taken;
@@ -40,10 +42,27 @@ module _ {file d : List ℕ} {g : GateRecord} {bases : List ℕ} (b : Bases file
         points = λ i e h l. rw (target-same (at + i * g .entries) e l) (r .points i e h l);
       }
 
-  pub raws-with : (v : List ℕ) (at n : ℕ) → rawWords v bases f (g .kind) (g .entries) at n ≡ rawWords v (basesOf file d g) f (g .kind) (g .entries) at n
+  raws-with : (v : List ℕ) (at n : ℕ) → rawWords v bases f (g .kind) (g .entries) at n ≡ rawWords v (basesOf file d g) f (g .kind) (g .entries) at n
   unfolding rawWords
   raws-with v at n =
       from-ext n 0 _ _ (λ i a z. ap (gateWord (g .kind)) (from-ext (g .entries) 0 _ _ (λ e p q. ap (λ (m : ℕ). getD v m 0) (target-same (at + i * g .entries) e (omega arith)))))
+
+  -- with the gate's rule: the rows can be read, and what is stored then are the gate's raw words
+  module _ {m : ℕ} (e : m ≡ g .entries) {r : Rule} (is : r ≡ ruleOf (g .kind)) where
+    pub readable : {size at first n : ℕ} → Raw size (basesOf file d g) f (g .kind) at (g .entries) first n → Raw size bases f (r .kind) at m first n × (r ≡ ruleOf (r .kind))
+    readable w = rw (is, e) (raw-with w, refl)
+
+    pub raw-kept : (v : List ℕ) (at first n : ℕ) {v₁ : List ℕ} → v₁ ≡ sets v first (rawWords v bases f (r .kind) m at n) → v₁ ≡ sets v first (rawWords v (basesOf file d g) f (g .kind) (g .entries) at n)
+    raw-kept v at first n w = (rw (is, e) at w) ∙ ap (sets v first) (raws-with v at n)
+
+-- two bases by themselves
+pub pair-bases : (file d : List ℕ) (list : ℕ) {x y entries : ℕ} → entries ≡ 2 → x ≡ firstFrame d (faninAt file list 0) → y ≡ firstFrame d (faninAt file list 1) → Bases file d list entries (x ∷ y ∷ [])
+pair-bases file d list {x} {y} {entries} q a b = record { base = λ e h. go e (rw q at h) }
+  where
+    go : (e : ℕ) → e < 2 → getD (x ∷ y ∷ []) e 0 ≡ firstFrame d (faninAt file list e)
+    go zero h = a
+    go (suc zero) h = b
+    go (suc (suc e)) h = absurd (omega arith)
 
 -- ---- without an inertial delay the filter leaves the words as they are
 
@@ -132,10 +151,10 @@ module _ {file d i f : List ℕ} {net : ℕ} {g : GateRecord} {at : ℕ} (v : Li
   unfolding gateWords raws
   words-length = filtered-length (partOf d i net) raws even ∙ raws-length
 
-  module _ {bases : List ℕ} (b : Bases file d g bases) {v₁ : List ℕ} (w : v₁ ≡ sets v (firstFrame d net) (rawWords v bases f (g .kind) (g .entries) at (frameCount d net))) where
+  module _ {v₁ : List ℕ} (w : v₁ ≡ sets v (firstFrame d net) (rawWords v (basesOf file d g) f (g .kind) (g .entries) at (frameCount d net))) where
     raw-stored : v₁ ≡ sets v (firstFrame d net) raws
     unfolding raws
-    raw-stored = w ∙ ap (sets v (firstFrame d net)) (raws-with b f v at (frameCount d net))
+    raw-stored = w
 
     pub gate-still : g .inertial ≡ 0 → v₁ ≡ sets v (firstFrame d net) (gateWords file d i f net g at v)
     unfolding gateWords raws

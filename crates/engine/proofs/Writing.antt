@@ -5,7 +5,7 @@ use Prim.Native.Nat.{ℕ, _+_, _*_, _≤_, _<_}
 use mathlib.Core.Path.{_≡_, refl, sym, ap, _∙_}
 use mathlib.Core.List.{List, [], _∷_}
 use native.Mathlib.Omega.{arith}
-use native.Mathlib.Nat.{mul-le-mul-right}
+use native.Mathlib.Nat.{add-zero, mul-le-mul-right}
 use lib.ListN.{length, getD, take, set}
 use lib.Seq.{sets, getD-take, take-set-le}
 use Rattle.lists.specs.Tables.{tabulateFrom}
@@ -67,11 +67,11 @@ module _ (v₀ bases fan : List ℕ) (k : Kind) (at entries first n : ℕ) where
     written-all h = all (w .left) (rw (raw-length v₀ bases fan k entries at n) h)
 
 -- a row of two
-pub pair-sources : (v bases fan : List ℕ) (row : ℕ) {x y : ℕ} → x ≡ sourceAt v bases fan row 0 → y ≡ sourceAt v bases fan row 1
-    → _≡_ {A = List ℕ} (x ∷ y ∷ []) (sources v bases fan row 2)
+pub pair-sources : (v fan : List ℕ) (x y row : ℕ) {a b : ℕ} → a ≡ getD v (x + getD fan row 0) 0 → b ≡ getD v (y + getD fan (row + 1) 0) 0
+    → _≡_ {A = List ℕ} (a ∷ b ∷ []) (sources v (x ∷ y ∷ []) fan row 2)
 unfolding tabulateFrom
-pair-sources v bases fan row a b = rw (a, b)
+pair-sources v fan x y row a b = rw (a, b, add-zero row)
 
 -- an entry of a row that can be read
-pub row-points : {limit : ℕ} {bases fan : List ℕ} {at entries : ℕ} → Row limit bases fan at entries → (e : ℕ) → e < entries → Points limit bases fan at e
-row-points r e h = record { few = omega (arith, r .few); within = omega (arith, r .within); below = r .points e h }
+pub row-points : {limit : ℕ} {bases fan : List ℕ} {at entries : ℕ} → Row limit bases fan at entries → (e : ℕ) → e < entries → Points limit (getD bases e 0) fan (at + e)
+row-points r e h = record { within = omega (arith, r .within); below = r .points e h }

@@ -85,10 +85,10 @@ target bases fan at e = getD bases e 0 + getD fan (at + e) 0
 abbrev pub sourceAt : List ℕ → List ℕ → List ℕ → ℕ → ℕ → ℕ
 sourceAt v bases fan at e = getD v (target bases fan at e) 0
 
-pub record Points (limit : ℕ) (bases fan : List ℕ) (at e : ℕ) : Type 0 where
-  pub few : e < mostFanins
-  pub within : at + e < length fan
-  pub below : target bases fan at e < limit
+-- the entry at this place points below `limit`
+pub record Points (limit base : ℕ) (fan : List ℕ) (place : ℕ) : Type 0 where
+  pub within : place < length fan
+  pub below : base + getD fan place 0 < limit
 
 -- the words that the row points to
 abbrev pub sources : List ℕ → List ℕ → List ℕ → ℕ → ℕ → List ℕ
@@ -118,9 +118,9 @@ pub record Raw (size : ℕ) (bases fan : List ℕ) (k : Kind) (at entries first 
 abbrev pub basesOf : List ℕ → List ℕ → GateRecord → List ℕ
 basesOf file d g = tabulate (g .entries) (λ (e : ℕ). firstFrame d (faninAt file (g .list) e))
 
--- an array that holds them
-pub record Bases (file d : List ℕ) (g : GateRecord) (bases : List ℕ) : Type 0 where
-  pub base : (e : ℕ) → e < g .entries → getD bases e 0 ≡ firstFrame d (faninAt file (g .list) e)
+-- a list or an array that has them for a fan-in list with this many entries, which starts at byte `list`
+pub record Bases (file d : List ℕ) (list entries : ℕ) (bases : List ℕ) : Type 0 where
+  pub base : (e : ℕ) → e < entries → getD bases e 0 ≡ firstFrame d (faninAt file list e)
 
 -- ---- one gate
 

@@ -7,9 +7,10 @@ ghost use lib.Seq.{sets};
 ghost use Rattle.method.specs.Kinds.{mostFanins};
 ghost use Rattle.circuit.specs.File.{inputsOf, gatesOf, faninAt};
 ghost use Rattle.planner.specs.Layout.{firstFrame, frameCount};
-ghost use Rattle.engine.specs.Steps.{Bases, Holds, Planned, Ready, gateWords, inputWords};
-use crate::rows::raw_words;
+ghost use Rattle.engine.specs.Steps.{Bases, Holds, Planned, Raw, Ready, basesOf, gateWords, inputWords, rawWords};
+use crate::rows::pair_rows;
 use crate::rows::rule_of;
+use crate::rows::wide_rows;
 use circuit::GateRecord;
 use method::Net;
 
@@ -78,38 +79,71 @@ fn gate_words(
     let first = directory[pair] as usize;
     let frames = directory[pair + 1] as usize;
     let end = first + frames;
-    let bases = bases_of(file, directory, gate);
-    let kind = gate.kind;
-    let entries = gate.entries as usize;
-    raw_words(
-        values,
-        first,
-        frames,
-        &bases,
-        fanins,
-        at,
-        entries,
-        rule_of(kind),
-    );
+    raw_words(file, directory, fanins, values, first, frames, gate, at);
     if gate.inertial == 0 {
         return;
     }
     words::filter(&mut values[first..end], &inertial[first..end]);
 }
 
-// Where the frames of each fan-in of a gate start.
-fn bases_of(file: &[u8], directory: &[u16], gate: GateRecord) -> [usize; 8]
-    requires { ⌜ (gate .entries ≤ mostFanins) × ((e : ℕ) → e < gate .entries → 2 * faninAt (now file) (gate .list) e < length (now directory)) ⌝ }
-    ensures { λ r. ⌜ Bases (now (file .entry)) (now (directory .entry)) gate r ⌝ }
+// Writes the raw words of a gate's frames from `first` on, whose fan-in rows start at `at`. Most gates have two fan-ins, and
+// need no array.
+fn raw_words(
+    file: &[u8],
+    directory: &[u16],
+    fanins: &[u16],
+    values: &mut [u64],
+    first: usize,
+    frames: usize,
+    gate: GateRecord,
+    at: usize,
+)
+    requires { ⌜ Raw (length (now values)) (basesOf (now file) (now directory) gate) (now fanins) (gate .kind) at (gate .entries) first frames ⌝ }
+    requires { ⌜ ((e : ℕ) → e < gate .entries → 2 * faninAt (now file) (gate .list) e < length (now directory)) ⌝ }
+    ensures { λ _. ⌜ now (values .exit) ≡ sets (now (values .entry)) first (rawWords (now (values .entry)) (basesOf (now (file .entry)) (now (directory .entry)) gate) (now (fanins .entry)) (gate .kind) (gate .entries) at frames) ⌝ }
 {
+    let kind = gate.kind;
+    let rule = rule_of(kind);
     let list = gate.list;
     let entries = gate.entries;
+    if entries == 2 {
+        let x = base_of(file, directory, list, 0);
+        let y = base_of(file, directory, list, 1);
+        pair_rows(values, first, frames, x, y, fanins, at, rule);
+        return;
+    }
+    let bases = bases_of(file, directory, list, entries);
+    wide_rows(
+        values,
+        first,
+        frames,
+        &bases,
+        fanins,
+        at,
+        entries as usize,
+        rule,
+    );
+}
+
+// Where the frames of each of a gate's fan-ins start, whose list has `entries` entries and starts at byte `list`.
+fn bases_of(file: &[u8], directory: &[u16], list: u32, entries: u16) -> [usize; 8]
+    requires { ⌜ (entries ≤ mostFanins) × ((e : ℕ) → e < entries → 2 * faninAt (now file) list e < length (now directory)) ⌝ }
+    ensures { λ r. ⌜ Bases (now (file .entry)) (now (directory .entry)) list entries r ⌝ }
+{
     let mut bases = [0usize; 8];
     let mut e: u16 = 0;
     while e < entries {
-        let fanin = circuit::fanin_at(file, list, e);
-        bases[e as usize] = directory[2 * (fanin.0 as usize)] as usize;
+        bases[e as usize] = base_of(file, directory, list, e);
         e += 1;
     }
     bases
+}
+
+// Where the frames of the net start that entry e of a fan-in list names.
+fn base_of(file: &[u8], directory: &[u16], list: u32, e: u16) -> usize
+    requires { ⌜ 2 * faninAt (now file) list e < length (now directory) ⌝ }
+    ensures { λ r. ⌜ r ≡ firstFrame (now (directory .entry)) (faninAt (now (file .entry)) list e) ⌝ }
+{
+    let fanin = circuit::fanin_at(file, list, e);
+    directory[2 * (fanin.0 as usize)] as usize
 }

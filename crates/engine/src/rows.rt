@@ -2,11 +2,11 @@
 ghost use mathlib.Core.Path.{_≡_};
 ghost use mathlib.Core.Bool.{true};
 ghost use mathlib.Core.List.{[], _∷_};
-ghost use Prim.Native.Nat.{_<_};
-ghost use lib.ListN.{length};
+ghost use Prim.Native.Nat.{_+_};
+ghost use lib.ListN.{length, getD};
 ghost use lib.Seq.{sets};
 ghost use Rattle.method.specs.Kinds.{takes};
-ghost use Rattle.engine.specs.Steps.{OneOf, Points, Raw, Row, SomeOf, exact, flipped, gateWord, mask, rawWords, ruleOf, sourceAt, sources, turned};
+ghost use Rattle.engine.specs.Steps.{OneOf, Points, Raw, Row, SomeOf, exact, flipped, gateWord, mask, rawWords, ruleOf, sources, turned};
 use method::Kind;
 
 const ALL: u64 = 18446744073709551615;
@@ -82,46 +82,26 @@ fn flip_of(kind: Kind) -> u64
     }
 }
 
-// Writes the raw words of a gate's frames from `first` on; their fan-in rows start at `at`.
-pub(crate) fn raw_words(
+// Writes the raw words of a gate of two fan-ins from `first` on; the fan-ins' frames start at x and y, the rows at `at`.
+pub(crate) fn pair_rows(
     values: &mut [u64],
     first: usize,
     frames: usize,
-    bases: &[usize; 8],
-    fanins: &[u16],
-    at: usize,
-    entries: usize,
-    rule: Rule,
-)
-    requires { ⌜ Raw (length (now values)) (now bases) (now fanins) (rule .kind) at entries first frames × (rule ≡ ruleOf (rule .kind)) ⌝ }
-    ensures { λ _. ⌜ now (values .exit) ≡ sets (now (values .entry)) first (rawWords (now (values .entry)) (now (bases .entry)) (now (fanins .entry)) (rule .kind) entries at frames) ⌝ }
-{
-    if entries == 2 {
-        pair_rows(values, first, frames, bases, fanins, at, rule);
-        return;
-    }
-    wide_rows(values, first, frames, bases, fanins, at, entries, rule);
-}
-
-// The raw words of a gate of two fan-ins.
-fn pair_rows(
-    values: &mut [u64],
-    first: usize,
-    frames: usize,
-    bases: &[usize; 8],
+    x: usize,
+    y: usize,
     fanins: &[u16],
     at: usize,
     rule: Rule,
 )
-    requires { ⌜ Raw (length (now values)) (now bases) (now fanins) (rule .kind) at 2 first frames × (rule ≡ ruleOf (rule .kind)) ⌝ }
-    ensures { λ _. ⌜ now (values .exit) ≡ sets (now (values .entry)) first (rawWords (now (values .entry)) (now (bases .entry)) (now (fanins .entry)) (rule .kind) 2 at frames) ⌝ }
+    requires { ⌜ Raw (length (now values)) (x ∷ y ∷ []) (now fanins) (rule .kind) at 2 first frames × (rule ≡ ruleOf (rule .kind)) ⌝ }
+    ensures { λ _. ⌜ now (values .exit) ≡ sets (now (values .entry)) first (rawWords (now (values .entry)) (x ∷ y ∷ []) (now (fanins .entry)) (rule .kind) 2 at frames) ⌝ }
 {
     let mut row = at;
     let mut k = 0;
     while k < frames {
-        let x = source(values, bases, fanins, row, 0);
-        let y = source(values, bases, fanins, row, 1);
-        values[first + k] = pair_word(rule, x, y);
+        let a = source(values, x, fanins, row);
+        let b = source(values, y, fanins, row + 1);
+        values[first + k] = pair_word(rule, a, b);
         row += 2;
         k += 1;
     }
@@ -140,8 +120,8 @@ fn pair_word(rule: Rule, x: u64, y: u64) -> u64
     ((x ^ turn) | (y ^ turn)) ^ flip
 }
 
-// The raw words of a gate of any number of fan-ins.
-fn wide_rows(
+// Writes the raw words of a gate of any number of fan-ins from `first` on.
+pub(crate) fn wide_rows(
     values: &mut [u64],
     first: usize,
     frames: usize,
@@ -197,7 +177,7 @@ fn some_of(
     let mut word: u64 = 0;
     let mut e = 0;
     while e < entries {
-        word = word | (source(values, bases, fanins, at, e) ^ turn);
+        word = word | (source(values, bases[e], fanins, at + e) ^ turn);
         e += 1;
     }
     word
@@ -212,7 +192,7 @@ fn one_of(values: &[u64], bases: &[usize; 8], fanins: &[u16], at: usize, entries
     let mut more: u64 = 0;
     let mut e = 0;
     while e < entries {
-        let word = source(values, bases, fanins, at, e);
+        let word = source(values, bases[e], fanins, at + e);
         more = more | (one & word);
         one = one | word;
         e += 1;
@@ -220,10 +200,10 @@ fn one_of(values: &[u64], bases: &[usize; 8], fanins: &[u16], at: usize, entries
     one ^ more
 }
 
-// The word that entry e of the fan-in row at `at` points to.
-fn source(values: &[u64], bases: &[usize; 8], fanins: &[u16], at: usize, e: usize) -> u64
-    requires { ⌜ Points (length (now values)) (now bases) (now fanins) at e ⌝ }
-    ensures { λ r. ⌜ r ≡ sourceAt (now (values .entry)) (now (bases .entry)) (now (fanins .entry)) at e ⌝ }
+// The word that the entry at this place of the fan-in area points to, for a fan-in whose frames start at `base`.
+fn source(values: &[u64], base: usize, fanins: &[u16], place: usize) -> u64
+    requires { ⌜ Points (length (now values)) base (now fanins) place ⌝ }
+    ensures { λ r. ⌜ r ≡ getD (now (values .entry)) (base + getD (now (fanins .entry)) place 0) 0 ⌝ }
 {
-    values[bases[e] + fanins[at + e] as usize]
+    values[base + fanins[place] as usize]
 }

@@ -1,6 +1,6 @@
 -- `engine::gates::bases_of` meets its contract. After e entries the array has their nets' first frames.
 -- Assumes nothing.
-use Prim.Native.Nat.{ℕ, _-_, _*_, _≤_, _<_}
+use Prim.Native.Nat.{ℕ, _-_, _≤_, _<_}
 use mathlib.Core.Path.{_≡_, refl, _∙_}
 use native.Mathlib.Omega.{arith}
 use lib.ListN.{length, getD, length-set}
@@ -21,29 +21,14 @@ abbrev μ-loop : tie.MeasureT-loop
 loop-holds : tie.Need-loop-holds Inv-loop μ-loop
 loop-holds c = (omega arith, refl, (λ i h. absurd (omega arith)))
 
-fanin-at-requires : tie.Need-fanin-at-requires Inv-loop μ-loop
-fanin-at-requires c κs = search needs
+base-of-requires : tie.Need-base-of-requires Inv-loop μ-loop
+base-of-requires c κs = c .before .before .before .before .pre .1 (c .before .loop .e) (c .loop-test .taken)
 
 cast-bases : tie.Need-cast-bases Inv-loop μ-loop
 cast-bases c = search needs
 
 mul-bases : tie.Need-mul-bases Inv-loop μ-loop
 mul-bases c = search needs
-
-mul-bases-2 : tie.Need-mul-bases-2 Inv-loop μ-loop
-mul-bases-2 c = search needs
-
-shared-slice-read-bases : tie.Need-shared-slice-read-bases Inv-loop μ-loop
-shared-slice-read-bases c = omega (arith, c .before .before .fanin-at .ensures, c .before .before .before .before .before .before .before .pre .1 (c .before .before .before .before .loop .e) (c .before .before .before .loop-test .taken))
-
-cast-bases-2 : tie.Need-cast-bases-2 Inv-loop μ-loop
-cast-bases-2 c = omega (arith, c .shared-slice-known3 .given (2 * c .before .before .fanin-at .result .0))
-
-cast-bases-3 : tie.Need-cast-bases-3 Inv-loop μ-loop
-cast-bases-3 c = search needs
-
-mul-bases-3 : tie.Need-mul-bases-3 Inv-loop μ-loop
-mul-bases-3 c = search needs
 
 array-write-bases : tie.Need-array-write-bases Inv-loop μ-loop
 array-write-bases c = search needs
@@ -56,9 +41,9 @@ loop-less c = search needs
 
 loop-again : tie.Need-loop-again Inv-loop μ-loop
 loop-again c =
-    let s = c .before .before .before .before .before .before .before in
-    let l = c .before .before .before .before .loop in
-    (omega arith, length-set (l .bases) (l .e) _ ∙ l .inv .1, agrees-more (λ (i : ℕ). firstFrame (s .args .directory .now) (faninAt (s .args .file .now) (s .args .gate .list) i)) (l .bases) (l .e) _ (omega arith) (rw (c .before .before .fanin-at .ensures)) (l .inv .2))
+    let s = c .before .before .before .before .before in
+    let l = c .before .before .loop in
+    (omega arith, length-set (l .bases) (l .e) _ ∙ l .inv .1, agrees-more (λ (i : ℕ). firstFrame (s .args .directory .now) (faninAt (s .args .file .now) (s .args .list) i)) (l .bases) (l .e) _ (omega arith) (c .base-of .ensures) (l .inv .2))
 
 returns : tie.Need-returns Inv-loop μ-loop
 returns c = record { base = λ e h. c .before .loop .inv .2 e (omega (arith, c .loop-test .left)) }
@@ -70,14 +55,9 @@ bases-of-spec =
     Inv-loop
     μ-loop
     loop-holds
-    fanin-at-requires
+    base-of-requires
     cast-bases
     mul-bases
-    mul-bases-2
-    shared-slice-read-bases
-    cast-bases-2
-    cast-bases-3
-    mul-bases-3
     array-write-bases
     add-e
     loop-less

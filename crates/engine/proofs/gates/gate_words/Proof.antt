@@ -3,7 +3,7 @@
 use Prim.Native.Nat.{_*_}
 use mathlib.Core.Path.{refl}
 use native.Mathlib.Omega.{arith}
-use Rattle.engine.proofs.Placing.{raw-with, gate-still, gate-stored}
+use Rattle.engine.proofs.Placing.{gate-still, gate-stored}
 use borrow.Author.Needs.{needs}
 use Rattle.engine.proofs.gates.gate_words.Statement.{statement}
 use Rattle.engine.proofs.gates.gate_words.Tie as tie
@@ -38,26 +38,17 @@ cast-frames c = search needs
 add-end : tie.Need-add-end
 add-end c = search needs
 
-bases-of-requires : tie.Need-bases-of-requires
-bases-of-requires c κs = search needs
-
-cast-entries : tie.Need-cast-entries
-cast-entries c = search needs
-
-rule-of-requires : tie.Need-rule-of-requires
-rule-of-requires c κs = search needs
-
 raw-words-requires : tie.Need-raw-words-requires
-raw-words-requires c κs = rw (c .rule-of .ensures) (raw-with (c .before .before .before .before .bases-of .ensures) (c .before .before .before .before .before .before .before .before .before .before .before .before .before .args .fanins .now) (c .before .before .before .before .before .before .before .before .before .before .before .before .before .pre .raw), refl)
+raw-words-requires c κs = (c .before .before .before .before .before .before .before .before .before .pre .raw, c .before .before .before .before .before .before .before .before .before .pre .fanin-pair)
 
 same-length : tie.Need-same-length
 same-length c = search needs
 
 returns : tie.Need-returns
-returns c = gate-still (c .before .before .before .before .before .before .before .before .before .before .before .before .before .before .before .before .before .before .args .values .now) (c .before .before .before .before .before .before .before .before .before .before .before .before .before .before .before .before .before .before .pre) (c .before .before .before .before .before .before .before .before .before .bases-of .ensures) (rw (c .before .before .before .before .before .rule-of .ensures) at (c .before .before .before .before .raw-words .ensures)) (c .if1 .taken)
+returns c = gate-still (c .before .before .before .before .before .before .before .before .before .before .before .before .before .before .args .values .now) (c .before .before .before .before .before .before .before .before .before .before .before .before .before .before .pre) (c .before .before .before .before .raw-words .ensures) (c .if1 .taken)
 
 mul-filter : tie.Need-mul-filter
-mul-filter c = omega (arith, c .before .before .before .before .before .before .before .before .before .before .before .shared-slice-known5 .given (2 * c .before .before .before .before .before .before .before .before .before .before .before .before .before .before .before .before .before .before .args .net .0))
+mul-filter c = omega (arith, c .before .before .before .before .before .before .before .shared-slice-known5 .given (2 * c .before .before .before .before .before .before .before .before .before .before .before .before .before .before .args .net .0))
 
 sub-filter : tie.Need-sub-filter
 sub-filter c = search needs
@@ -69,7 +60,7 @@ part-filter-end : tie.Need-part-filter-end
 part-filter-end c = search needs
 
 mul-filter-2 : tie.Need-mul-filter-2
-mul-filter-2 c = omega (arith, c .before .before .before .before .before .before .before .before .before .before .before .before .shared-slice-known5 .given (2 * c .before .before .before .before .before .before .before .before .before .before .before .before .before .before .before .before .before .before .before .args .net .0))
+mul-filter-2 c = omega (arith, c .before .before .before .before .before .before .before .before .shared-slice-known5 .given (2 * c .before .before .before .before .before .before .before .before .before .before .before .before .before .before .before .args .net .0))
 
 sub-filter-2 : tie.Need-sub-filter-2
 sub-filter-2 c = search needs
@@ -87,7 +78,7 @@ same-length-2 : tie.Need-same-length-2
 same-length-2 c = search needs
 
 returns-2 : tie.Need-returns-2
-returns-2 c = gate-stored (c .before .before .before .before .before .before .before .before .before .before .before .before .before .before .before .before .before .before .before .before .before .before .before .args .values .now) (c .before .before .before .before .before .before .before .before .before .before .before .before .before .before .before .before .before .before .before .before .before .before .before .pre) (c .before .before .before .before .before .before .before .before .before .before .before .before .before .before .bases-of .ensures) (rw (c .before .before .before .before .before .before .before .before .before .before .rule-of .ensures) at (c .before .before .before .before .before .before .before .before .before .raw-words .ensures)) refl (c .before .before .filter .ensures) refl
+returns-2 c = gate-stored (c .before .before .before .before .before .before .before .before .before .before .before .before .before .before .before .before .before .before .before .args .values .now) (c .before .before .before .before .before .before .before .before .before .before .before .before .before .before .before .before .before .before .before .pre) (c .before .before .before .before .before .before .before .before .before .raw-words .ensures) refl (c .before .before .filter .ensures) refl
 
 pub gate-words-spec : {M : Type 1} → statement M
 gate-words-spec =
@@ -103,9 +94,6 @@ gate-words-spec =
     shared-slice-read-frames
     cast-frames
     add-end
-    bases-of-requires
-    cast-entries
-    rule-of-requires
     raw-words-requires
     same-length
     returns

@@ -23,8 +23,17 @@ loop-holds : tie.Need-loop-holds Inv-loop μ-loop
 unfolding tabulateFrom
 loop-holds c = (omega arith, tally-none)
 
+mul-source : tie.Need-mul-source Inv-loop μ-loop
+mul-source c = search needs
+
+element-copy-out-source : tie.Need-element-copy-out-source Inv-loop μ-loop
+element-copy-out-source c = omega (arith, c .before .before .before .before .pre .few)
+
+add-source : tie.Need-add-source Inv-loop μ-loop
+add-source c = omega (arith, c .before .before .before .before .before .pre .within)
+
 source-requires : tie.Need-source-requires Inv-loop μ-loop
-source-requires c κs = row-points (c .before .before .before .before .pre) (c .before .loop .e) (c .loop-test .taken)
+source-requires c κs = row-points (c .before .before .before .before .before .pre) (c .before .before .loop .e) (c .before .loop-test .taken)
 
 add-e : tie.Need-add-e Inv-loop μ-loop
 add-e c = search needs
@@ -33,7 +42,7 @@ loop-less : tie.Need-loop-less Inv-loop μ-loop
 loop-less c = search needs
 
 loop-again : tie.Need-loop-again Inv-loop μ-loop
-loop-again c = (omega arith, rw (add-one (c .before .before .loop .e), tabulate-snoc (c .before .before .loop .e) _, c .source .ensures) (tally-more (c .before .before .loop .inv .1) _))
+loop-again c = (omega arith, rw (add-one (c .before .before .before .loop .e), tabulate-snoc (c .before .before .before .loop .e) _, c .source .ensures) (tally-more (c .before .before .before .loop .inv .1) _))
 
 returns : tie.Need-returns Inv-loop μ-loop
 returns c =
@@ -43,4 +52,15 @@ returns c =
 pub one-of-spec : {M : Type 1} → statement M
 one-of-spec =
     tie.close
-    (tie.spec Inv-loop μ-loop loop-holds source-requires add-e loop-less loop-again returns)
+    (tie.spec
+    Inv-loop
+    μ-loop
+    loop-holds
+    mul-source
+    element-copy-out-source
+    add-source
+    source-requires
+    add-e
+    loop-less
+    loop-again
+    returns)

@@ -2,23 +2,28 @@
 -- Assumes nothing.
 use Prim.Native.Nat.{_-_}
 use mathlib.Core.Path.{ap, _∙_}
+use mathlib.Core.List.{[], _∷_}
 use native.Mathlib.Omega.{arith}
+use native.Mathlib.Nat.{add-zero}
 use Rattle.engine.specs.Steps.{gateWord}
 use Rattle.engine.proofs.Writing.{Written, written-none, written-row, written-more, written-all, row-points, pair-sources}
 use Rattle.engine.proofs.rows.pair_rows.Statement.{statement}
 use Rattle.engine.proofs.rows.pair_rows.Tie as tie
 
 abbrev Inv-loop : tie.InvT-loop
-Inv-loop values₀ first frames bases fanins at rule row₀ k₀ values row k = Written values₀ bases fanins (rule .kind) at 2 first frames values row k
+Inv-loop values₀ first frames x y fanins at rule row₀ k₀ values row k = Written values₀ (x ∷ y ∷ []) fanins (rule .kind) at 2 first frames values row k
 
 abbrev μ-loop : tie.MeasureT-loop
-μ-loop values₀ first frames bases fanins at rule row₀ k₀ values row k = frames - k
+μ-loop values₀ first frames x y fanins at rule row₀ k₀ values row k = frames - k
 
 loop-holds : tie.Need-loop-holds Inv-loop μ-loop
 loop-holds c = written-none _ _ _ _ _ _ _ _
 
 source-requires : tie.Need-source-requires Inv-loop μ-loop
-source-requires c κs = row-points (written-row _ _ _ _ _ _ _ _ (c .before .before .before .before .before .pre .0) (c .before .before .loop .inv) (c .before .loop-test .taken)) 0 (omega arith)
+source-requires c κs = rw add-zero at (row-points (written-row _ _ _ _ _ _ _ _ (c .before .before .before .before .before .pre .0) (c .before .before .loop .inv) (c .before .loop-test .taken)) 0 (omega arith))
+
+add-source : tie.Need-add-source Inv-loop μ-loop
+add-source c = omega (arith, written-row _ _ _ _ _ _ _ _ (c .before .before .before .before .before .before .before .pre .0) (c .before .before .before .before .loop .inv) (c .before .before .before .loop-test .taken) .within)
 
 source-requires-2 : tie.Need-source-requires-2 Inv-loop μ-loop
 source-requires-2 c κs = row-points (written-row _ _ _ _ _ _ _ _ (c .before .before .before .before .before .before .before .pre .0) (c .before .before .before .before .loop .inv) (c .before .before .before .loop-test .taken)) 1 (omega arith)
@@ -45,7 +50,7 @@ loop-less : tie.Need-loop-less Inv-loop μ-loop
 loop-less c = omega arith
 
 loop-again : tie.Need-loop-again Inv-loop μ-loop
-loop-again c = written-more _ _ _ _ _ _ _ _ (c .before .before .before .before .before .before .before .before .before .pre .0) (c .before .before .before .before .before .before .loop .inv) (c .before .before .before .before .before .loop-test .taken) _ (c .pair-word .ensures ∙ ap (gateWord (c .before .before .before .before .before .before .before .before .before .args .rule .kind)) (pair-sources (c .before .before .before .before .before .before .loop .values) (c .before .before .before .before .before .before .before .before .before .args .bases .now) (c .before .before .before .before .before .before .before .before .before .args .fanins .now) (c .before .before .before .before .before .before .loop .row) (c .before .before .before .source .ensures) (c .before .source2 .ensures)))
+loop-again c = written-more _ _ _ _ _ _ _ _ (c .before .before .before .before .before .before .before .before .before .pre .0) (c .before .before .before .before .before .before .loop .inv) (c .before .before .before .before .before .loop-test .taken) _ (c .pair-word .ensures ∙ ap (gateWord (c .before .before .before .before .before .before .before .before .before .args .rule .kind)) (pair-sources (c .before .before .before .before .before .before .loop .values) (c .before .before .before .before .before .before .before .before .before .args .fanins .now) (c .before .before .before .before .before .before .before .before .before .args .x) (c .before .before .before .before .before .before .before .before .before .args .y) (c .before .before .before .before .before .before .loop .row) (c .before .before .before .source .ensures) (c .before .source2 .ensures)))
 
 same-length : tie.Need-same-length Inv-loop μ-loop
 same-length c = c .before .loop .inv .left .same
@@ -61,6 +66,7 @@ pair-rows-spec =
     μ-loop
     loop-holds
     source-requires
+    add-source
     source-requires-2
     pair-word-requires
     add-values
