@@ -1,6 +1,6 @@
 // The raw words of a gate's frames: 64 lanes at once.
 ghost use mathlib.Core.Path.{_≡_};
-ghost use mathlib.Core.Bool.{true};
+ghost use mathlib.Core.Bool.{true, false};
 ghost use mathlib.Core.List.{[], _∷_};
 ghost use Prim.Native.Nat.{_+_};
 ghost use lib.ListN.{length, getD};
@@ -120,7 +120,7 @@ fn pair_word(rule: Rule, x: u64, y: u64) -> u64
     ((x ^ turn) | (y ^ turn)) ^ flip
 }
 
-// Writes the raw words of a gate of any number of fan-ins from `first` on.
+// Writes the raw words of a gate of any number of fan-ins from `first` on. The kind is asked before the loop, not in it.
 pub(crate) fn wide_rows(
     values: &mut [u64],
     first: usize,
@@ -134,32 +134,57 @@ pub(crate) fn wide_rows(
     requires { ⌜ Raw (length (now values)) (now bases) (now fanins) (rule .kind) at entries first frames × (rule ≡ ruleOf (rule .kind)) ⌝ }
     ensures { λ _. ⌜ now (values .exit) ≡ sets (now (values .entry)) first (rawWords (now (values .entry)) (now (bases .entry)) (now (fanins .entry)) (rule .kind) entries at frames) ⌝ }
 {
-    let mut row = at;
-    let mut k = 0;
-    while k < frames {
-        values[first + k] = row_word(values, bases, fanins, row, entries, rule);
-        row += entries;
-        k += 1;
+    if rule.exact {
+        one_rows(values, first, frames, bases, fanins, at, entries, rule);
+        return;
     }
+    some_rows(values, first, frames, bases, fanins, at, entries, rule);
 }
 
-// The raw word of a frame whose fan-in row starts at `at`.
-fn row_word(
-    values: &[u64],
+// The words where some entry has to be 1.
+fn some_rows(
+    values: &mut [u64],
+    first: usize,
+    frames: usize,
     bases: &[usize; 8],
     fanins: &[u16],
     at: usize,
     entries: usize,
     rule: Rule,
-) -> u64
-    requires { ⌜ Row (length (now values)) (now bases) (now fanins) at entries × (takes (rule .kind) entries ≡ true) × (rule ≡ ruleOf (rule .kind)) ⌝ }
-    ensures { λ r. ⌜ r ≡ gateWord (rule .kind) (sources (now (values .entry)) (now (bases .entry)) (now (fanins .entry)) at entries) ⌝ }
+)
+    requires { ⌜ Raw (length (now values)) (now bases) (now fanins) (rule .kind) at entries first frames × (rule ≡ ruleOf (rule .kind)) × (rule .exact ≡ false) ⌝ }
+    ensures { λ _. ⌜ now (values .exit) ≡ sets (now (values .entry)) first (rawWords (now (values .entry)) (now (bases .entry)) (now (fanins .entry)) (rule .kind) entries at frames) ⌝ }
 {
-    let flip = rule.flip;
-    if rule.exact {
-        return one_of(values, bases, fanins, at, entries) ^ flip;
+    let mut row = at;
+    let mut k = 0;
+    while k < frames {
+        values[first + k] = some_of(values, bases, fanins, row, entries, rule.turn) ^ rule.flip;
+        row += entries;
+        k += 1;
     }
-    some_of(values, bases, fanins, at, entries, rule.turn) ^ flip
+}
+
+// The words where exactly one entry has to be 1.
+fn one_rows(
+    values: &mut [u64],
+    first: usize,
+    frames: usize,
+    bases: &[usize; 8],
+    fanins: &[u16],
+    at: usize,
+    entries: usize,
+    rule: Rule,
+)
+    requires { ⌜ Raw (length (now values)) (now bases) (now fanins) (rule .kind) at entries first frames × (rule ≡ ruleOf (rule .kind)) × (rule .exact ≡ true) ⌝ }
+    ensures { λ _. ⌜ now (values .exit) ≡ sets (now (values .entry)) first (rawWords (now (values .entry)) (now (bases .entry)) (now (fanins .entry)) (rule .kind) entries at frames) ⌝ }
+{
+    let mut row = at;
+    let mut k = 0;
+    while k < frames {
+        values[first + k] = one_of(values, bases, fanins, row, entries) ^ rule.flip;
+        row += entries;
+        k += 1;
+    }
 }
 
 // The lanes in which some entry of the row is 1, each turned.
