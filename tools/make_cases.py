@@ -185,12 +185,12 @@ def good(inputs, records):
     answer, areas, values = run(nets, records, words[0::2], words[1::2], checked)
     seen = ";" + looks(nets[-1][0], values[-1]) if values else ""
     cases.append((file_of(inputs, records), f"accepted {inputs} {len(records)}; {answer} {sums(areas[:4])}; refused 10; "
-                  f"{answer} {sums(areas)}{seen}; refused 11; refused 11; refused 10"))
+                  f"0 {answer} {sums(areas)}{seen}; refused 11; refused 11; refused 10"))
 
 
 def bad(data, number):
     no, areas = f"refused {number}", untouched(LENGTHS + (VALUES,))
-    cases.append((data, f"{no}; {no} {sums(areas[:4])}; {no}; {no} {sums(areas)}; {no}; {no}; {no}"))
+    cases.append((data, f"{no}; {no} {sums(areas[:4])}; {no}; {number} {no} {sums(areas)}; {no}; {no}; {no}"))
 
 
 BUF, NOT, AND, OR, XOR, XNOR = 0, 1, 2, 4, 6, 7
@@ -439,16 +439,25 @@ with open("crates/cases/stdout", "w") as f:
         answer, areas = f"refused {10 if l[:5] != right else 11}", untouched(l[:5])
         if l == right + (1, 1):
             answer, areas, _ = run(frames(1, []), [], [3], [5], range(64))
-        f.write("run lengths " + " ".join(map(str, l)) + f"; {answer} {sums(areas)}\n")
+        first = answer.split()[1] if answer.startswith("refused") else 0
+        f.write("run lengths " + " ".join(map(str, l)) + f"; {first} {answer} {sums(areas)}\n")
     for di in (1, 2):
         nets = frames(1, wave_circuit(di))
         answer, areas, values = run(nets, wave_circuit(di), [0], [1], range(64))
-        f.write(f"waves; {answer} {sums(areas)}")
+        f.write(f"waves; 0 {answer} {sums(areas)}")
         for net, (times, _, _) in enumerate(nets):
             f.write(f"; {net} " + " ".join(f"{t}={look(times, values[net], 0, t)[0]}" for t in times))
         f.write("\n")
     for times, values, lane, time in parts:
         f.write(f"look {len(times)} {len(values)} {lane} {time}; " + "; ".join(look(times, values, lane, time)) + "\n")
+    nets = frames(1, wave_circuit(1))
+    values = run(nets, wave_circuit(1), [0], [1], range(64))[2]
+    for net, lane, time in ((2, 0, 1), (2, 0, 2), (2, 0, 3), (2, 0, 4), (3, 0, 4), (160, 0, 4), (65535, 64, 4), (2, 64, 4)):
+        seen = look(nets[net][0], values[net], lane, time)[0] if net < 3 else "refused 14"
+        f.write(f"run and look {net} {lane} {time}; {seen}\n")
+    f.write("run and look 2 0 4; refused 11\n")
+    for time in (0, 65535):
+        f.write(f"run and look 1 63 {time}; {look(nets[1][0], values[1], 63, time)[0]}\n")
     f.writelines(line + "\n" for _, line in cases)
     f.write("cut\n")
 print(len(cases), "cases,", sum("planned" in line for _, line in cases), "planned,", sum("refused 13" in line for _, line in cases), "refused with 13")

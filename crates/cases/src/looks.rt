@@ -112,7 +112,11 @@ fn show_frame(times: &[u16], values: &[u64], time: u16) {
 }
 
 fn show_level(times: &[u16], values: &[u64], lane: u8, time: u16) {
-    match engine::level(times, values, lane, Time(time)) {
+    show_seen(engine::level(times, values, lane, Time(time)));
+}
+
+pub(crate) fn show_seen(answer: Seen) {
+    match answer {
         Seen::Level(level) => {
             if level {
                 io::write_all(STDOUT_FILENO, b"1");

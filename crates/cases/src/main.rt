@@ -1,11 +1,11 @@
 // The test program. Standard input is a row of cases, each a length of four bytes, little-endian, and a circuit file of
 // that length. Standard output has a line a case: what the reader answers, `accepted I G` or `refused` and the number; what
 // Plan answers, `planned` and the three totals or `refused` and the number, with a sum of each area as Plan leaves it; and
-// what Plan answers where the directory is too short. Then what Run answers with words that the case's number gives, with a
-// sum of each area; what Level and Count answer for the last net, where there was a run; and what Run answers where a word
-// list or the values are too short. It stops at the end of the input; where it stops before that, at a case that is cut
+// what Plan answers where the directory is too short. Then, with words that the case's number gives, what Run's questions 1
+// to 11 answer, and Run, with a sum of each area; what Level and Count answer for the last net, where there was a run; and what
+// Run answers where a word list or the values are too short. It stops at the end of the input; where it stops before that, at a case that is cut
 // short or longer than 70,000 bytes or after a million cases, it prints `cut`. Before the cases come lines for areas and
-// lists of other lengths, for a circuit whose waves are known, and for parts of a net that are made up.
+// lists of other lengths, for a circuit whose waves are known, for parts of a net that are made up, and for looks after a run.
 ghost use Prim.Native.Nat.{_<_};
 
 mod looks;
@@ -21,15 +21,13 @@ use plans::lengths;
 use plans::show_plan;
 use plans::show_refused;
 use plans::show_short;
+use runs::looks_after_runs;
 use runs::run_lengths;
 use runs::show_runs;
 use runs::waves;
 
 fn main() {
-    lengths();
-    run_lengths();
-    waves();
-    looks_at_parts();
+    fixed_lines();
     let mut turns: u32 = 0;
     while turns < 1000000 {
         if !next_case(turns) {
@@ -38,6 +36,15 @@ fn main() {
         turns += 1;
     }
     end_of_turns();
+}
+
+// The lines that come before the cases.
+fn fixed_lines() {
+    lengths();
+    run_lengths();
+    waves();
+    looks_at_parts();
+    looks_after_runs();
 }
 
 // Says so where input is left.

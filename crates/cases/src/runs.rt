@@ -2,6 +2,7 @@
 // before.
 ghost use Prim.Native.Nat.{_<_, _≤_};
 use crate::looks::show_net;
+use crate::looks::show_seen;
 use crate::looks::show_wave;
 use crate::patterns::fill_words;
 use crate::plans::show_number;
@@ -9,6 +10,8 @@ use crate::plans::show_planning;
 use crate::plans::show_sums;
 use circuit::Reading;
 use libc::STDOUT_FILENO;
+use method::Net;
+use method::Time;
 use planner::Planning;
 
 // Runs the file with words that its number gives.
@@ -91,7 +94,8 @@ fn show_run(file: &[u8], before: &[u64], after: &[u64]) {
     }
 }
 
-// Runs the file, and prints the answer and the sums. True where there was a run.
+// Prints the number of the first of questions 1 to 11 that fails, or 0; then runs the file, and prints the answer and the
+// sums. True where there was a run.
 fn run_in(
     file: &[u8],
     directory: &mut [u16],
@@ -102,6 +106,18 @@ fn run_in(
     before: &[u64],
     after: &[u64],
 ) -> bool {
+    show_number(
+        engine::questions(
+            file,
+            directory,
+            times,
+            inertial,
+            fanins,
+            values,
+            before,
+            after,
+        ) as u64,
+    );
     let answer = engine::run(
         file,
         directory,
@@ -266,5 +282,51 @@ fn show_waves(file: &[u8]) {
     show_wave(&directory, &times, &values, 0);
     show_wave(&directory, &times, &values, 1);
     show_wave(&directory, &times, &values, 2);
+    io::write_all(STDOUT_FILENO, b"\n");
+}
+
+// Running and then looking at a net of the example: its levels, a net that is not there, and a lane that is not there; then
+// with a word too many, and in the last lane, where nothing changes.
+pub(crate) fn looks_after_runs() {
+    let before = [0u64; 2];
+    let after = [1u64; 2];
+    show_look(&before[0..1], &after[0..1], 2, 0, 1);
+    show_look(&before[0..1], &after[0..1], 2, 0, 2);
+    show_look(&before[0..1], &after[0..1], 2, 0, 3);
+    show_look(&before[0..1], &after[0..1], 2, 0, 4);
+    show_look(&before[0..1], &after[0..1], 3, 0, 4);
+    show_look(&before[0..1], &after[0..1], 160, 0, 4);
+    show_look(&before[0..1], &after[0..1], 65535, 64, 4);
+    show_look(&before[0..1], &after[0..1], 2, 64, 4);
+    show_look(&before[0..2], &after[0..1], 2, 0, 4);
+    show_look(&before[0..1], &after[0..1], 1, 63, 0);
+    show_look(&before[0..1], &after[0..1], 1, 63, 65535);
+}
+
+// Runs the example, and prints the net, the lane, the time and what is seen.
+fn show_look(before: &[u64], after: &[u64], net: u16, lane: u8, time: u16) {
+    let mut directory = [7u16; 320];
+    let mut times = [7u16; 2048];
+    let mut inertial = [7u16; 2048];
+    let mut fanins = [7u16; 16384];
+    let mut values = [7u64; 2048];
+    io::write_all(STDOUT_FILENO, b"run and look");
+    show_number(net as u64);
+    show_number(lane as u64);
+    show_number(time as u64);
+    io::write_all(STDOUT_FILENO, b"; ");
+    show_seen(engine::look(
+        b"\x01\x00\x02\x00\x0c\x00\x05\x00\x11\x00\x07\x00\x01\x02\x00\x00\x00\x02\x01\x01\x00\x00\x01\x00",
+        &mut directory,
+        &mut times,
+        &mut inertial,
+        &mut fanins,
+        &mut values,
+        before,
+        after,
+        Net(net),
+        lane,
+        Time(time),
+    ));
     io::write_all(STDOUT_FILENO, b"\n");
 }

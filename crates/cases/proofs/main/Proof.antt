@@ -11,17 +11,8 @@ Inv-loop turns₀ turns = Unit
 abbrev μ-loop : tie.MeasureT-loop
 μ-loop turns₀ turns = 1000000 - turns
 
-lengths-requires : tie.Need-lengths-requires Inv-loop μ-loop
-lengths-requires c κs = search needs
-
-run-lengths-requires : tie.Need-run-lengths-requires Inv-loop μ-loop
-run-lengths-requires c κs = search needs
-
-waves-requires : tie.Need-waves-requires Inv-loop μ-loop
-waves-requires c κs = search needs
-
-looks-at-parts-requires : tie.Need-looks-at-parts-requires Inv-loop μ-loop
-looks-at-parts-requires c κs = search needs
+fixed-lines-requires : tie.Need-fixed-lines-requires Inv-loop μ-loop
+fixed-lines-requires c κs = search needs
 
 loop-holds : tie.Need-loop-holds Inv-loop μ-loop
 loop-holds c = search needs
@@ -53,10 +44,7 @@ main-spec =
     (tie.spec
     Inv-loop
     μ-loop
-    lengths-requires
-    run-lengths-requires
-    waves-requires
-    looks-at-parts-requires
+    fixed-lines-requires
     loop-holds
     next-case-requires
     returns
