@@ -1,11 +1,11 @@
 -- What holds of the areas that an accepted run leaves, and of two runs. The only hypothesis is Run's promise: no bound on a
 -- word, none on what the areas held before. `after-runs` in `proofs/After` proves it.
-use Prim.Native.Nat.{ℕ, suc, _+_, _*_, _<_, _≤_}
+use Prim.Native.Nat.{ℕ, suc, _+_, _<_, _≤_}
 use mathlib.Core.Path.{_≡_}
 use mathlib.Core.Logic.{_≢_}
 use mathlib.Core.Bool.{true}
 use mathlib.Core.List.{List}
-use lib.ListN.{length, getD}
+use lib.ListN.{length}
 use Rattle.lists.specs.Ladder.{accepted}
 use Rattle.method.specs.Times.{among}
 use Rattle.method.specs.Machine.{machine}
@@ -14,7 +14,7 @@ use Rattle.method.specs.Agreement.{changedTimes, potential}
 use Rattle.method.specs.Lanes.{AgreeIn}
 use Rattle.circuit.specs.File.{circuitOf}
 use Rattle.planner.specs.declared.Totals.{Totals}
-use Rattle.planner.specs.Layout.{partOf}
+use Rattle.planner.specs.Layout.{firstFrame, frameCount, partOf}
 use Rattle.engine.specs.Areas.{Areas}
 use Rattle.engine.specs.Values.{netCount}
 use Rattle.engine.specs.Run.{outcome, runOf}
@@ -39,9 +39,9 @@ lastTime = 65535
 
 pub record After (file before after : List ℕ) (a : Areas) : Type 0 where
   -- the directory's pair (o, c) of net n has c from 1 to 64, and o + c at most 2,048
-  pub some-frame : (n : ℕ) → n < netCount (circuitOf file) → 1 ≤ getD (a .plan .directory) (2 * n + 1) 0
-  pub few-frames : (n : ℕ) → n < netCount (circuitOf file) → getD (a .plan .directory) (2 * n + 1) 0 ≤ 64
-  pub inside : (n : ℕ) → n < netCount (circuitOf file) → getD (a .plan .directory) (2 * n) 0 + getD (a .plan .directory) (2 * n + 1) 0 ≤ 2048
+  pub some-frame : (n : ℕ) → n < netCount (circuitOf file) → 1 ≤ frameCount (a .plan .directory) n
+  pub few-frames : (n : ℕ) → n < netCount (circuitOf file) → frameCount (a .plan .directory) n ≤ 64
+  pub inside : (n : ℕ) → n < netCount (circuitOf file) → firstFrame (a .plan .directory) n + frameCount (a .plan .directory) n ≤ 2048
   -- Level answers on these parts, and what it answers is the machine's level, run for the lane's pattern pair by itself; at
   -- every time t, so at those from 0 to 65,535
   pub level-is-machine : (n L t : ℕ) → n < netCount (circuitOf file) → L < 64
