@@ -16,7 +16,7 @@ use Rattle.lists.proofs.Choices.{order}
 use Rattle.lists.proofs.Tabled.{from-length, from-ext, tabulate-at, map-from, map-at}
 use Rattle.lists.proofs.Flat.{seam-at, table-at, table-length}
 use Rattle.lists.proofs.Storing.{take-stored}
-use Rattle.method.specs.Kinds.{gateFn, takes, mostFanins}
+use Rattle.method.specs.Kinds.{gateFn, takes}
 use Rattle.method.specs.Circuit.{Circuit, gateAt, NoFeedback}
 use Rattle.method.specs.Stimulus.{Stimuli}
 use Rattle.method.specs.Indices.{faninIndex, inertialIndices}
@@ -37,14 +37,9 @@ use Rattle.circuit.proofs.Accepted as reader
 use Rattle.circuit.proofs.Faithful.{gate-within}
 use Rattle.circuit.proofs.Bounded.{no-feedback}
 use Rattle.circuit.proofs.Parts.{gates-length, gateFrom, gate-from, RecordWithin}
-use Rattle.planner.specs.Limits.{directoryLength, timesLength, mostTotalFrames}
-use Rattle.planner.specs.Areas.{areas}
 use Rattle.planner.specs.Layout.{firstFrame, frameCount, partOf, allTimes, allFanins}
-use Rattle.planner.proofs.Prefix.{frames-all}
-use Rattle.planner.proofs.Accepted.{circuit-inputs, circuit-within, within, gate-read, few, nets-sized}
-use Rattle.planner.proofs.Fitting.{fits-total}
+use Rattle.planner.proofs.Accepted.{circuit-inputs, circuit-within, within, gate-read, few}
 use Rattle.planner.proofs.Laying.{pair-first, pair-count, inertial-part, fanin-at, frames-end, fanins-end, fanins-more}
-use Rattle.planner.proofs.Calling.{suited}
 use Rattle.words.specs.Filtered.{filteredWords}
 use Rattle.engine.specs.Steps.{gateWord, target, sourceAt, sources, rawWords, basesOf, gateWords, Ready, Planned, Holds}
 use Rattle.engine.proofs.Writing.{raw-length}
@@ -186,36 +181,26 @@ module _ {file d i f : List ℕ} (p : Planned file d i f) where
 
     -- ---- it can be evaluated
 
-    totals-fit : (length d ≡ directoryLength) × (length i ≡ timesLength) × (length (allTimes fs) ≤ mostTotalFrames) × (length (allFanins fs) ≤ length f)
-    totals-fit =
-        let l = suited (areas d (p .times) i f) (p .suits) in
-        let total = fits-total fs (p .fit) in
-        let wide : length (allFanins fs) ≤ mostFanins * length (allTimes fs) = rw (frames-all c (gatesOf file) (sym (gates-length file))) at (nets-sized file (p .read) (gatesOf file) (omega arith) .wide) in
-        (l .0, l .2, total, omega (arith, l .3))
-
     -- without an inertial delay no frame counts
     still : g .inertial ≡ 0 → (k : ℕ) → getD (partOf d i net) k 0 ≡ 0
     still z k =
         rw (inertial-is, every-gate .gate-inertial j listed, gate-is, z) (starts-counted ts (times-start c net) k)
 
-    gate-ready : {size : ℕ} → size ≡ 2048 → Ready file d i f size net g rowsAt
+    gate-ready : {size : ℕ} → length (allTimes fs) ≤ size → Ready file d i f size net g rowsAt
     gate-ready {size} s =
-        let l = totals-fit in
-        let n = few file (p .read) in
-        let net-small : net < 160 = omega (arith, circuit-inputs file) in
         record {
-          pair = omega arith;
-          fanin-pair = λ e m. omega (arith, fanin-below e m);
+          pair = omega (arith, there, p .pairs);
+          fanin-pair = λ e m. omega (arith, fanin-below e m, there, p .pairs);
           raw = record {
             taken = taken;
             few = own .entries-most;
             room = omega (arith, own-first, own-count, frames-end fs net there);
-            within = rw own-count (omega (arith, rows-length, fanins-end fs net there));
+            within = rw own-count (omega (arith, rows-length, fanins-end fs net there, p .rows));
             points = λ k e a b.
                 let a′ : k < length ts = rw own-count at a in
                 rw (target-at k e a′ b, own-first) (omega (arith, index-fits k e, frames-below fs (fanin e) net (fanin-below e b) (omega (arith, there))));
           };
-          indices = omega (arith, own-first, own-count, frames-end fs net there);
+          indices = omega (arith, own-first, own-count, frames-end fs net there, p .indices);
           still = still;
         }
 
@@ -283,10 +268,10 @@ module _ {file d i f : List ℕ} (p : Planned file d i f) where
           (from-ext (length ts) 0 _ _ (λ k z l. pack-ext lanes _ _ (λ L b. ap (λ (bs : List Bool). getD bs k false) (lane-values L b))))
 
       -- one net more
-      gate-holds : {v′ : List ℕ} → length v ≡ 2048 → v′ ≡ sets v (firstFrame d net) (gateWords file d i f net g rowsAt v) → Holds file before after (suc net) v′
+      gate-holds : {v′ : List ℕ} → length (allTimes fs) ≤ length v → v′ ≡ sets v (firstFrame d net) (gateWords file d i f net g rowsAt v) → Holds file before after (suc net) v′
       gate-holds {v′} size e =
           let count : length (words net) ≡ length ts = word-each c before after net in
-          let room : length (allTimes (take net fs)) + length (words net) ≤ length v = omega (arith, frames-end fs net there, totals-fit .2) in
+          let room : length (allTimes (take net fs)) + length (words net) ≤ length v = omega (arith, frames-end fs net there) in
           record {
             is =
                 rw (e, own-first, words-are, times-next fs net there, length-append (allTimes (take net fs)) ts, ← count, flat-next words net)
@@ -316,13 +301,13 @@ module _ {file d i f : List ℕ} (p : Planned file d i f) {inputs : ℕ} (e : in
 
   -- j gates are done, the rows of the next start at `at`
   module _ {j : ℕ} (h : j < gatesOf file) {at : ℕ} (rows : at ≡ length (allFanins (take (inputs + j) (frames (circuitOf file))))) {g : GateRecord} (is : g ≡ recordOf file j) where
-    pub turn-ready : {size : ℕ} → size ≡ 2048 → Ready file d i f size (inputs + j) g at
-    turn-ready s = rw (rows, is, net-is) (gate-ready p j h s)
+    pub turn-ready : (size : ℕ) → length (allTimes (frames (circuitOf file))) ≤ size → Ready file d i f size (inputs + j) g at
+    turn-ready size s = rw (rows, is, net-is) (gate-ready p j h s)
 
     pub turn-rows : at + frameCount d (inputs + j) * g .entries ≡ length (allFanins (take (inputs + (j + 1)) (frames (circuitOf file))))
     turn-rows = rw (rows, is, net-is, let q : circuitOf file .inputs + (j + 1) ≡ suc (circuitOf file .inputs + j) = omega arith in q) (sym (rows-next p j h))
 
-    pub turn-holds : {before after v v′ : List ℕ} → length v ≡ 2048 → v′ ≡ sets v (firstFrame d (inputs + j)) (gateWords file d i f (inputs + j) g at v)
+    pub turn-holds : {before after v v′ : List ℕ} → length (allTimes (frames (circuitOf file))) ≤ length v → v′ ≡ sets v (firstFrame d (inputs + j)) (gateWords file d i f (inputs + j) g at v)
         → Holds file before after (inputs + j) v → Holds file before after (inputs + (j + 1)) v′
     turn-holds {before} {after} {v} {v′} size w holds =
         let q : inputs + (j + 1) ≡ suc (circuitOf file .inputs + j) = omega (arith, net-is) in

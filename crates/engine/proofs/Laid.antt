@@ -22,6 +22,7 @@ use Rattle.planner.specs.Layout.{allTimes, laid}
 use Rattle.planner.specs.Questions.{areasSuit, fits, ownQuestions, questions}
 use Rattle.planner.specs.Plan.{totalsOf, leftBy, Outcome, outcome, onPaper, planOf}
 use Rattle.planner.proofs.Accepted.{few}
+use Rattle.planner.proofs.Calling as planner
 use Rattle.planner.proofs.Fitting.{fits-total}
 use Rattle.engine.specs.Areas as engine
 use Rattle.engine.specs.Steps.{Asked, Planned}
@@ -78,8 +79,8 @@ module _ (file : List ℕ) {a : engine.Areas} {before after : ℕ} (h : Asked fi
       plan-frames = rw plan-totals
 
       -- the values have a word for each frame
-      pub plan-room : totals .frames ≤ length (a .values)
-      plan-room = omega (arith, plan-frames, fits-total (frames (circuitOf file)) plan-fits, passed file a before after (h .none) .values)
+      pub words-fit : totals .frames ≤ length (a .values)
+      words-fit = omega (arith, plan-frames, fits-total (frames (circuitOf file)) plan-fits, passed file a before after (h .none) .values)
 
       pub plan-laid : areas d t i f ≡ laid (frames (circuitOf file)) (a .plan)
       unfolding leftBy
@@ -87,12 +88,14 @@ module _ (file : List ℕ) {a : engine.Areas} {before after : ℕ} (h : Asked fi
 
       -- the areas are as long as they were
       pub planned : length d ≡ length (a .plan .directory) → length t ≡ length (a .plan .times) → length i ≡ length (a .plan .inertial) → length f ≡ length (a .plan .fanins) → Planned file d i f
-      unfolding areasSuit laid
+      unfolding laid
       planned ld lt li lf =
+          let room = planner.plan-room file (a .plan) (h .read) (passed file a before after (h .none) .suits) plan-fits in
           record {
             read = h .read;
             times = t;
-            suits = rw (ld, lt, li, lf) (passed file a before after (h .none) .suits);
-            fit = plan-fits;
             is = plan-laid ∙ rw (ld, lt, li, lf);
+            pairs = omega (arith, ld, room .directory);
+            indices = omega (arith, li, room .inertial);
+            rows = omega (arith, lf, room .fanins);
           }

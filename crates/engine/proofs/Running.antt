@@ -26,7 +26,7 @@ use Rattle.engine.specs.Questions.{ownQuestions, firstQuestions, questio
 use Rattle.engine.specs.Run.{filled, leftBy, outcome, runOf}
 use Rattle.engine.specs.Steps.{Asked, Planned, Holds, inputWords}
 use Rattle.engine.proofs.Asking.{passed}
-use Rattle.engine.proofs.Laid.{lastQuestion, plan-13, plan-fits, plan-totals, plan-frames, plan-room, plan-laid}
+use Rattle.engine.proofs.Laid.{lastQuestion, plan-13, plan-fits, plan-totals, plan-frames, words-fit, plan-laid}
 use Rattle.engine.proofs.Valued.{holds-inputs, values-are, rest-cleared}
 
 -- ---- the ladder
@@ -111,6 +111,6 @@ module _ (file before after : List ℕ) {d t i f v : List ℕ} (h : Asked file (
     unfolding filled
     simulate-yes {v1} {v2} {ys} w g l z =
         let all = values-are file before after ni ng (g before after (holds-inputs file before after ni (passed file (areas d t i f v) (length before) (length after) (h .none) .before-each) w)) in
-        let values = rest-cleared v2 (totals .frames) l (plan-room file h e q) (rw (← plan-frames file h e q) at all) z in
+        let values = rest-cleared v2 (totals .frames) l (words-fit file h e q) (rw (← plan-frames file h e q) at all) z in
         ap₂ (λ (x : planner.Areas) (y : List ℕ). outcome (onPaper (Q.Planned totals)) (record { plan = x; values = y })) (plan-laid file h e q) values
         ∙ rw (plan-totals file h e q) (run-yes file before after (areas d t i f v) h (plan-fits file h e q))

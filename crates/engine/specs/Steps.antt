@@ -17,8 +17,7 @@ use Rattle.circuit.specs.declared.GateRecord.{GateRecord}
 use Rattle.circuit.specs.File.{inputsOf, gatesOf, faninAt, circuitOf}
 use Rattle.circuit.specs.Questions.{readOf}
 use Rattle.planner.specs.Areas.{areas}
-use Rattle.planner.specs.Layout.{laid, firstFrame, frameCount, partOf, allTimes}
-use Rattle.planner.specs.Questions.{areasSuit, fits}
+use Rattle.planner.specs.Layout.{laid, firstFrame, frameCount, partOf, allTimes, allFanins}
 use Rattle.words.specs.Filtered.{filteredWords}
 use Rattle.engine.specs.declared.rows.Rule.{Rule}
 use Rattle.engine.specs.Areas.{Areas}
@@ -139,13 +138,18 @@ pub record Ready (file d i f : List ℕ) (size net : ℕ) (g : GateRecord) (at :
 
 -- ---- all gates
 
--- the areas hold the plan of an accepted file, with some times
+-- the areas hold the plan of an accepted file, with some times, and are long enough for it
 pub record Planned (file d i f : List ℕ) : Type 0 where
   pub read : readOf file ≡ accepted (record { inputs = inputsOf file; gates = gatesOf file })
   pub times : List ℕ
-  pub suits : areasSuit (areas d times i f) ≡ true
-  pub fit : fits (frames (circuitOf file)) ≡ true
   pub is : areas d times i f ≡ laid (frames (circuitOf file)) (areas d times i f)
+  pub pairs : 2 * length (frames (circuitOf file)) ≤ length d
+  pub indices : length (allTimes (frames (circuitOf file))) ≤ length i
+  pub rows : length (allFanins (frames (circuitOf file))) ≤ length f
+
+-- the values area has a word for each frame
+pub record Roomy (file v : List ℕ) : Type 0 where
+  pub words : length (allTimes (frames (circuitOf file))) ≤ length v
 
 -- the values area starts with the packed values of the first n nets
 pub record Holds (file before after : List ℕ) (n : ℕ) (v : List ℕ) : Type 0 where

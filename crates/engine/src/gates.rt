@@ -7,7 +7,7 @@ ghost use lib.Seq.{sets};
 ghost use Rattle.method.specs.Kinds.{mostFanins};
 ghost use Rattle.circuit.specs.File.{inputsOf, gatesOf, faninAt};
 ghost use Rattle.planner.specs.Layout.{firstFrame, frameCount};
-ghost use Rattle.engine.specs.Steps.{Bases, Holds, Planned, Raw, Ready, basesOf, gateWords, inputWords, rawWords};
+ghost use Rattle.engine.specs.Steps.{Bases, Holds, Planned, Raw, Ready, Roomy, basesOf, gateWords, inputWords, rawWords};
 use crate::rows::pair_rows;
 use crate::rows::rule_of;
 use crate::rows::wide_rows;
@@ -38,7 +38,7 @@ pub(crate) fn all_gates(
     gates: u16,
 )
     requires { ⌜ Planned (now file) (now directory) (now inertial) (now fanins) × (inputs ≡ inputsOf (now file)) × (gates ≡ gatesOf (now file)) ⌝ }
-    requires { ⌜ length (now values) ≡ 2048 ⌝ }
+    requires { ⌜ Roomy (now file) (now values) ⌝ }
     ensures { λ _. ⌜ ((before after : List ℕ) → Holds (now (file .entry)) before after inputs (now (values .entry)) → Holds (now (file .entry)) before after (inputs + gates) (now (values .exit))) ⌝ }
 {
     let mut at: usize = 0;

@@ -27,7 +27,7 @@ use Rattle.planner.specs.Areas.{Areas, allCleared}
 use Rattle.planner.specs.Layout.{allTimes, laid}
 use Rattle.planner.specs.Questions.{areasSuit, fits, ownQuestions, questions}
 use Rattle.planner.specs.Plan.{totalsOf, leftBy, outcome, planOf, onPaper}
-use Rattle.planner.specs.Steps.{framesOf, Given, Reached, Filled}
+use Rattle.planner.specs.Steps.{framesOf, Given, Reached, Filled, Room}
 use Rattle.planner.proofs.Laying.{laid-kept}
 use Rattle.planner.proofs.Prefix.{frames-all}
 use Rattle.planner.proofs.Fitting.{fits-total}
@@ -71,7 +71,7 @@ module _ (file : List ℕ) {gates : ℕ} (all : gates ≡ gatesOf file) {a′ : 
 
 -- ---- question 10 gives room for every plan that fits
 
-pub suited : (a : Areas) → areasSuit a ≡ true → (length (a .directory) ≡ directoryLength) × (length (a .times) ≡ timesLength) × (length (a .inertial) ≡ timesLength) × (length (a .fanins) ≡ faninsLength)
+suited : (a : Areas) → areasSuit a ≡ true → (length (a .directory) ≡ directoryLength) × (length (a .times) ≡ timesLength) × (length (a .inertial) ≡ timesLength) × (length (a .fanins) ≡ faninsLength)
 unfolding areasSuit
 suited a e =
     let e2 = and-right (eqb (length (a .directory)) directoryLength) _ e in
@@ -98,14 +98,19 @@ given-all file a e y =
           };
     }
 
+pub plan-room : (file : List ℕ) (a : Areas) → reader.readOf file ≡ accepted (record { inputs = inputsOf file; gates = gatesOf file }) → areasSuit a ≡ true → fits (frames (circuitOf file)) ≡ true
+    → Room (frames (circuitOf file)) a
+plan-room file a e y fit =
+    let all = frames-all (circuitOf file) (gatesOf file) (sym (gates-length file)) in
+    rw all at (given-all file a e y .room (gatesOf file) (omega arith) (rw all fit))
+
 -- so the areas that hold the plan of an accepted file hold it at their own lengths
 pub plan-kept : (file : List ℕ) (a : Areas) {a′ : Areas} → reader.readOf file ≡ accepted (record { inputs = inputsOf file; gates = gatesOf file }) → areasSuit a ≡ true → fits (frames (circuitOf file)) ≡ true
     → a′ ≡ laid (frames (circuitOf file)) a → a′ ≡ laid (frames (circuitOf file)) a′
 plan-kept file a e y fit is =
     let all = frames-all (circuitOf file) (gatesOf file) (sym (gates-length file)) in
-    let room = given-all file a e y .room (gatesOf file) (omega arith) (rw all fit) in
     let even = nets-sized file e (gatesOf file) (omega arith) .even in
-    laid-kept (frames (circuitOf file)) is (rw all at room) (rw all at even)
+    laid-kept (frames (circuitOf file)) is (plan-room file a e y fit) (rw all at even)
 
 -- ---- the ladder
 

@@ -1,8 +1,7 @@
 -- `simulate` meets its contract: past 1 to 11 Plan can refuse with 13 only; else it leaves what evaluating asks for.
 -- Assumes nothing.
 use native.Mathlib.Omega.{arith}
-use Rattle.engine.proofs.Asking.{passed}
-use Rattle.engine.proofs.Laid.{words-room, plan-room, planned}
+use Rattle.engine.proofs.Laid.{words-room, words-fit, plan-frames, planned}
 use Rattle.engine.proofs.Running.{simulate-13, simulate-yes}
 use borrow.Author.Needs.{needs}
 use Rattle.engine.proofs.simulate.Statement.{statement}
@@ -31,7 +30,7 @@ all-gates-requires c κs =
     let s = c .before .before .before .before .before .before .before .before .before .before .before .before .before .before .before .before .before .before .before .before .before .before .before .before .before .before .before .before .before .before .before .before .before in
     let p = c .before .before .before .before .before .before .before .before .before .before .before .before .before .before .before .before .before .before .before .before .plan in
     let t = c .before .before .before .before .before .before .before .before .before .before .t .given .1 in
-    ((planned _ (s .pre .0) (p .ensures) t (p .kept .1 .0) (p .kept .1 .1 .0) (p .kept .1 .1 .1 .0) (p .kept .1 .1 .1 .1 .0), s .pre .1, s .pre .2), omega (arith, c .before .before .before .before .before .before .input-words .kept, passed _ _ _ _ (s .pre .0 .none) .values))
+    ((planned _ (s .pre .0) (p .ensures) t (p .kept .1 .0) (p .kept .1 .1 .0) (p .kept .1 .1 .1 .0) (p .kept .1 .1 .1 .1 .0), s .pre .1, s .pre .2), record { words = omega (arith, c .before .before .before .before .before .before .input-words .kept, plan-frames _ (s .pre .0) (p .ensures) t, words-fit _ (s .pre .0) (p .ensures) t) })
 
 mul-clear-words : tie.Need-mul-clear-words
 mul-clear-words c = search needs
@@ -41,14 +40,14 @@ sub-clear-words c =
     let s = c .before .before .before .before .before .before .before .before .before .before .before .before .before .before .before .before .before .before .before .before .before .before .before .before .before .before .before .before .before .before .before .before .before .before .before .before in
     let p = c .before .before .before .before .before .before .before .before .before .before .before .before .before .before .before .before .before .before .before .before .before .before .before .plan in
     let t = c .before .before .before .before .before .before .before .before .before .before .before .before .before .t .given .1 in
-    omega (arith, c .before .before .all-gates .kept, c .before .before .before .before .before .before .before .before .before .input-words .kept, plan-room _ (s .pre .0) (p .ensures) t)
+    omega (arith, c .before .before .all-gates .kept, c .before .before .before .before .before .before .before .before .before .input-words .kept, words-fit _ (s .pre .0) (p .ensures) t)
 
 part-clear-words-start : tie.Need-part-clear-words-start
 part-clear-words-start c =
     let s = c .before .before .before .before .before .before .before .before .before .before .before .before .before .before .before .before .before .before .before .before .before .before .before .before .before .before .before .before .before .before .before .before .before .before .before .before in
     let p = c .before .before .before .before .before .before .before .before .before .before .before .before .before .before .before .before .before .before .before .before .before .before .before .plan in
     let t = c .before .before .before .before .before .before .before .before .before .before .before .before .before .t .given .1 in
-    omega (arith, c .before .before .all-gates .kept, c .before .before .before .before .before .before .before .before .before .input-words .kept, plan-room _ (s .pre .0) (p .ensures) t)
+    omega (arith, c .before .before .all-gates .kept, c .before .before .before .before .before .before .before .before .before .input-words .kept, words-fit _ (s .pre .0) (p .ensures) t)
 
 part-clear-words-end : tie.Need-part-clear-words-end
 part-clear-words-end c = search needs

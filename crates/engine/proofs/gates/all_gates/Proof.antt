@@ -1,7 +1,7 @@
 -- `engine::gates::all_gates` meets its contract. After j gates the area holds the words of the inputs and of these gates.
 -- Assumes nothing.
 use Prim.Native.Nat.{ℕ, _+_, _-_, _≤_, _<_}
-use mathlib.Core.Path.{_≡_}
+use mathlib.Core.Path.{_≡_, refl}
 use mathlib.Core.List.{List}
 use native.Mathlib.Omega.{arith}
 use native.Mathlib.Nat.{add-zero}
@@ -17,13 +17,13 @@ use Rattle.engine.proofs.gates.all_gates.Statement.{statement}
 use Rattle.engine.proofs.gates.all_gates.Tie as tie
 
 abbrev Inv-loop : tie.InvT-loop
-Inv-loop file directory inertial fanins values₀ inputs gates at₀ j₀ values at j = (j ≤ gates) × (length values ≡ 2048) × (at ≡ length (allFanins (take (inputs + j) (frames (circuitOf file))))) × ((before after : List ℕ) → Holds file before after inputs values₀ → Holds file before after (inputs + j) values)
+Inv-loop file directory inertial fanins values₀ inputs gates at₀ j₀ values at j = (j ≤ gates) × (length values ≡ length values₀) × (at ≡ length (allFanins (take (inputs + j) (frames (circuitOf file))))) × ((before after : List ℕ) → Holds file before after inputs values₀ → Holds file before after (inputs + j) values)
 
 abbrev μ-loop : tie.MeasureT-loop
 μ-loop file directory inertial fanins values₀ inputs gates at₀ j₀ values at j = gates - j
 
 loop-holds : tie.Need-loop-holds Inv-loop μ-loop
-loop-holds c = (omega arith, c .before .before .before .before .before .pre .1, rows-start (c .before .before .before .before .before .pre .0 .0) (c .before .before .before .before .before .pre .0 .1), (λ b a h. rw add-zero h))
+loop-holds c = (omega arith, refl, rows-start (c .before .before .before .before .before .pre .0 .0) (c .before .before .before .before .before .pre .0 .1), (λ b a h. rw add-zero h))
 
 gate-at-requires : tie.Need-gate-at-requires Inv-loop μ-loop
 gate-at-requires c κs = search needs
@@ -32,13 +32,13 @@ add-t13 : tie.Need-add-t13 Inv-loop μ-loop
 add-t13 c = omega (arith, few (c .before .before .before .before .before .before .before .before .args .file .now) (c .before .before .before .before .before .before .before .before .pre .0 .0 .read), c .before .before .before .before .before .before .before .before .pre .0 .1, c .before .before .before .before .before .before .before .before .pre .0 .2, c .before .loop-test .taken)
 
 gate-words-requires : tie.Need-gate-words-requires Inv-loop μ-loop
-gate-words-requires c κs = turn-ready (c .before .before .before .before .before .before .before .before .before .pre .0 .0) (c .before .before .before .before .before .before .before .before .before .pre .0 .1) {j = c .before .before .before .loop .j} (omega (arith, c .before .before .loop-test .taken, c .before .before .before .before .before .before .before .before .before .pre .0 .2)) (c .before .before .before .loop .inv .2) (c .before .gate-at .ensures) (c .before .before .before .loop .inv .1)
+gate-words-requires c κs = turn-ready (c .before .before .before .before .before .before .before .before .before .pre .0 .0) (c .before .before .before .before .before .before .before .before .before .pre .0 .1) {j = c .before .before .before .loop .j} (omega (arith, c .before .before .loop-test .taken, c .before .before .before .before .before .before .before .before .before .pre .0 .2)) (c .before .before .before .loop .inv .2) (c .before .gate-at .ensures) (length (c .before .before .before .loop .values)) (omega (arith, c .before .before .before .before .before .before .before .before .before .pre .1 .words, c .before .before .before .loop .inv .1))
 
 rows-of-requires : tie.Need-rows-of-requires Inv-loop μ-loop
-rows-of-requires c κs = omega (arith, turn-ready (c .before .before .before .before .before .before .before .before .before .before .before .before .pre .0 .0) (c .before .before .before .before .before .before .before .before .before .before .before .before .pre .0 .1) {j = c .before .before .before .before .before .before .loop .j} (omega (arith, c .before .before .before .before .before .loop-test .taken, c .before .before .before .before .before .before .before .before .before .before .before .before .pre .0 .2)) (c .before .before .before .before .before .before .loop .inv .2) (c .before .before .before .before .gate-at .ensures) (c .before .before .before .before .before .before .loop .inv .1) .pair)
+rows-of-requires c κs = omega (arith, turn-ready (c .before .before .before .before .before .before .before .before .before .before .before .before .pre .0 .0) (c .before .before .before .before .before .before .before .before .before .before .before .before .pre .0 .1) {j = c .before .before .before .before .before .before .loop .j} (omega (arith, c .before .before .before .before .before .loop-test .taken, c .before .before .before .before .before .before .before .before .before .before .before .before .pre .0 .2)) (c .before .before .before .before .before .before .loop .inv .2) (c .before .before .before .before .gate-at .ensures) (length (c .before .before .before .before .before .before .loop .values)) (omega (arith, c .before .before .before .before .before .before .before .before .before .before .before .before .pre .1 .words, c .before .before .before .before .before .before .loop .inv .1)) .pair)
 
 add-at : tie.Need-add-at Inv-loop μ-loop
-add-at c = omega (arith, c .rows-of .ensures, turn-ready (c .before .before .before .before .before .before .before .before .before .before .before .before .before .pre .0 .0) (c .before .before .before .before .before .before .before .before .before .before .before .before .before .pre .0 .1) {j = c .before .before .before .before .before .before .before .loop .j} (omega (arith, c .before .before .before .before .before .before .loop-test .taken, c .before .before .before .before .before .before .before .before .before .before .before .before .before .pre .0 .2)) (c .before .before .before .before .before .before .before .loop .inv .2) (c .before .before .before .before .before .gate-at .ensures) (c .before .before .before .before .before .before .before .loop .inv .1) .raw .within)
+add-at c = omega (arith, c .rows-of .ensures, turn-ready (c .before .before .before .before .before .before .before .before .before .before .before .before .before .pre .0 .0) (c .before .before .before .before .before .before .before .before .before .before .before .before .before .pre .0 .1) {j = c .before .before .before .before .before .before .before .loop .j} (omega (arith, c .before .before .before .before .before .before .loop-test .taken, c .before .before .before .before .before .before .before .before .before .before .before .before .before .pre .0 .2)) (c .before .before .before .before .before .before .before .loop .inv .2) (c .before .before .before .before .before .gate-at .ensures) (length (c .before .before .before .before .before .before .before .loop .values)) (omega (arith, c .before .before .before .before .before .before .before .before .before .before .before .before .before .pre .1 .words, c .before .before .before .before .before .before .before .loop .inv .1)) .raw .within)
 
 add-j : tie.Need-add-j Inv-loop μ-loop
 add-j c = search needs
@@ -54,7 +54,7 @@ loop-again c =
       omega arith,
       omega (arith, c .before .before .before .gate-words .kept .1 .1 .1 .1 .0, l .inv .1),
       rw (c .rows-of .ensures) (turn-rows (s .pre .0 .0) (s .pre .0 .1) more (l .inv .2) (c .before .before .before .before .before .gate-at .ensures)),
-      (λ b a h. turn-holds (s .pre .0 .0) (s .pre .0 .1) more (l .inv .2) (c .before .before .before .before .before .gate-at .ensures) (l .inv .1) (c .before .before .before .gate-words .ensures) (l .inv .3 b a h)),
+      (λ b a h. turn-holds (s .pre .0 .0) (s .pre .0 .1) more (l .inv .2) (c .before .before .before .before .before .gate-at .ensures) (omega (arith, s .pre .1 .words, l .inv .1)) (c .before .before .before .gate-words .ensures) (l .inv .3 b a h)),
     )
 
 same-length : tie.Need-same-length Inv-loop μ-loop
