@@ -451,13 +451,13 @@ with open("crates/cases/stdout", "w") as f:
     for times, values, lane, time in parts:
         f.write(f"look {len(times)} {len(values)} {lane} {time}; " + "; ".join(look(times, values, lane, time)) + "\n")
     nets = frames(1, wave_circuit(1))
-    values = run(nets, wave_circuit(1), [0], [1], range(64))[2]
-    for net, lane, time in ((2, 0, 1), (2, 0, 2), (2, 0, 3), (2, 0, 4), (3, 0, 4), (160, 0, 4), (65535, 64, 4), (2, 64, 4)):
+    _, areas, values = run(nets, wave_circuit(1), [0], [1], range(64))
+    for net, lane, time in ((2, 0, 1), (2, 0, 2), (2, 0, 3), (2, 0, 4), (3, 0, 4), (160, 0, 4), (65535, 64, 4), (2, 64, 4),
+                            (1, 63, 0), (1, 63, 65535)):
         seen = look(nets[net][0], values[net], lane, time)[0] if net < 3 else "refused 14"
-        f.write(f"run and look {net} {lane} {time}; {seen}\n")
-    f.write("run and look 2 0 4; refused 11\n")
-    for time in (0, 65535):
-        f.write(f"run and look 1 63 {time}; {look(nets[1][0], values[1], 63, time)[0]}\n")
+        f.write(f"run and look {net} {lane} {time}; {seen} {sums(areas)}\n")
+    for number in (11, 1):
+        f.write(f"run and look 2 0 4; refused {number} {sums(untouched(right))}\n")
     f.writelines(line + "\n" for _, line in cases)
     f.write("cut\n")
 print(len(cases), "cases,", sum("planned" in line for _, line in cases), "planned,", sum("refused 13" in line for _, line in cases), "refused with 13")

@@ -2,10 +2,11 @@
 // that length. Standard output has a line a case: what the reader answers, `accepted I G` or `refused` and the number; what
 // Plan answers, `planned` and the three totals or `refused` and the number, with a sum of each area as Plan leaves it; and
 // what Plan answers where the directory is too short. Then, with words that the case's number gives, what Run's questions 1
-// to 11 answer, and Run, with a sum of each area; what Level and Count answer for the last net, where there was a run; and what
-// Run answers where a word list or the values are too short. It stops at the end of the input; where it stops before that, at a case that is cut
-// short or longer than 70,000 bytes or after a million cases, it prints `cut`. Before the cases come lines for areas and
-// lists of other lengths, for a circuit whose waves are known, for parts of a net that are made up, and for looks after a run.
+// to 11 answer, and Run, with a sum of each area; what Level and Count answer for the last net, where there was a run; and
+// what Run answers where a word list or the values are too short. It stops at the end of the input; where it stops before
+// that, at a case that is cut short or longer than 70,000 bytes or after a million cases, it prints `cut`. Before the cases
+// come lines for areas and lists of other lengths, for a circuit whose waves are known, for parts of a net that are made up,
+// and for looks after a run.
 ghost use Prim.Native.Nat.{_<_};
 
 mod looks;

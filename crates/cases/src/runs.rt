@@ -285,26 +285,29 @@ fn show_waves(file: &[u8]) {
     io::write_all(STDOUT_FILENO, b"\n");
 }
 
-// Running and then looking at a net of the example: its levels, a net that is not there, and a lane that is not there; then
-// with a word too many, and in the last lane, where nothing changes.
+// Running and then looking at a net of the example: its levels, a net that is not there, and a lane that is not there; with a
+// word too many; in the last lane, where nothing changes; and a file that is turned down.
 pub(crate) fn looks_after_runs() {
     let before = [0u64; 2];
     let after = [1u64; 2];
-    show_look(&before[0..1], &after[0..1], 2, 0, 1);
-    show_look(&before[0..1], &after[0..1], 2, 0, 2);
-    show_look(&before[0..1], &after[0..1], 2, 0, 3);
-    show_look(&before[0..1], &after[0..1], 2, 0, 4);
-    show_look(&before[0..1], &after[0..1], 3, 0, 4);
-    show_look(&before[0..1], &after[0..1], 160, 0, 4);
-    show_look(&before[0..1], &after[0..1], 65535, 64, 4);
-    show_look(&before[0..1], &after[0..1], 2, 64, 4);
-    show_look(&before[0..2], &after[0..1], 2, 0, 4);
-    show_look(&before[0..1], &after[0..1], 1, 63, 0);
-    show_look(&before[0..1], &after[0..1], 1, 63, 65535);
+    let file =
+        b"\x01\x00\x02\x00\x0c\x00\x05\x00\x11\x00\x07\x00\x01\x02\x00\x00\x00\x02\x01\x01\x00\x00\x01\x00";
+    show_look(file, &before[0..1], &after[0..1], 2, 0, 1);
+    show_look(file, &before[0..1], &after[0..1], 2, 0, 2);
+    show_look(file, &before[0..1], &after[0..1], 2, 0, 3);
+    show_look(file, &before[0..1], &after[0..1], 2, 0, 4);
+    show_look(file, &before[0..1], &after[0..1], 3, 0, 4);
+    show_look(file, &before[0..1], &after[0..1], 160, 0, 4);
+    show_look(file, &before[0..1], &after[0..1], 65535, 64, 4);
+    show_look(file, &before[0..1], &after[0..1], 2, 64, 4);
+    show_look(file, &before[0..1], &after[0..1], 1, 63, 0);
+    show_look(file, &before[0..1], &after[0..1], 1, 63, 65535);
+    show_look(file, &before[0..2], &after[0..1], 2, 0, 4);
+    show_look(&file[0..3], &before[0..1], &after[0..1], 2, 0, 4);
 }
 
-// Runs the example, and prints the net, the lane, the time and what is seen.
-fn show_look(before: &[u64], after: &[u64], net: u16, lane: u8, time: u16) {
+// Runs the file, and prints the net, the lane, the time, what is seen, and the sums.
+fn show_look(file: &[u8], before: &[u64], after: &[u64], net: u16, lane: u8, time: u16) {
     let mut directory = [7u16; 320];
     let mut times = [7u16; 2048];
     let mut inertial = [7u16; 2048];
@@ -316,7 +319,7 @@ fn show_look(before: &[u64], after: &[u64], net: u16, lane: u8, time: u16) {
     show_number(time as u64);
     io::write_all(STDOUT_FILENO, b"; ");
     show_seen(engine::look(
-        b"\x01\x00\x02\x00\x0c\x00\x05\x00\x11\x00\x07\x00\x01\x02\x00\x00\x00\x02\x01\x01\x00\x00\x01\x00",
+        file,
         &mut directory,
         &mut times,
         &mut inertial,
@@ -328,5 +331,7 @@ fn show_look(before: &[u64], after: &[u64], net: u16, lane: u8, time: u16) {
         lane,
         Time(time),
     ));
+    show_sums(&directory, &times, &inertial, &fanins);
+    show_words(&values);
     io::write_all(STDOUT_FILENO, b"\n");
 }

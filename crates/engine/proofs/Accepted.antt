@@ -21,11 +21,11 @@ use Rattle.planner.proofs.Calling.{plan-kept}
 use Rattle.engine.specs.Areas.{Areas}
 use Rattle.engine.specs.Values.{allValues}
 use Rattle.engine.specs.Questions.{firstQuestions, questions}
-use Rattle.engine.specs.Run.{Outcome, filled, leftBy, runOf}
+use Rattle.engine.specs.Run.{Outcome, filled, runOf}
 use Rattle.engine.specs.After.{Ran}
 use Rattle.engine.proofs.Asking.{Passed, passed}
 use Rattle.engine.proofs.Laid.{lastQuestion}
-use Rattle.engine.proofs.Running.{joined}
+use Rattle.engine.proofs.Running.{joined, left-none}
 
 -- ---- no question was answered no
 
@@ -53,10 +53,6 @@ pub record Held (file before after : List ℕ) (a : Areas) : Type 0 where
   pub size : ℕ
   pub values-are : a .values ≡ padded size (allValues (circuitOf file) before after)
 
-left-none : (n : ℕ) (c : Circuit) (before after : List ℕ) (a : Areas) → n ≡ 0 → leftBy n c before after a ≡ filled c before after a
-unfolding leftBy
-left-none n c before after a e = rw e
-
 pub filled-plan : (c : Circuit) (before after : List ℕ) (a : Areas) → filled c before after a .plan ≡ laid (frames c) (a .plan)
 unfolding filled
 filled-plan c before after a = refl
@@ -72,7 +68,7 @@ module _ (file before after : List ℕ) {a : Areas} (r : Ran file before after a
 
   left-filled : a ≡ filled (circuitOf file) before after (r .entry)
   unfolding runOf
-  left-filled = ap (λ (o : Outcome). o .left) (r .ran) ∙ left-none _ (circuitOf file) before after (r .entry) none
+  left-filled = ap (λ (o : Outcome). o .left) (r .ran) ∙ rw none (left-none file before after (r .entry))
 
   pub held : Held file before after a
   held =

@@ -1,13 +1,13 @@
 -- What holds of the areas that an accepted run leaves, since they hold the plan and the packed values: `specs/After`, proved.
 -- Assumes nothing.
-use Prim.Native.Nat.{ℕ, suc, _+_, _*_, _≤_, _<_}
+use Prim.Native.Nat.{ℕ, suc, _+_, _≤_, _<_}
 use mathlib.Core.Path.{_≡_, refl, sym, ap, _∙_}
 use mathlib.Core.Logic.{_≢_}
 use mathlib.Core.Bool.{Bool, true, false, cond}
 use mathlib.Core.List.{List, map}
 use native.Mathlib.Omega.{arith}
 use lib.Dec.{eqb}
-use lib.ListN.{length, getD}
+use lib.ListN.{length}
 use Rattle.lists.specs.Ladder.{firstNo, accepted}
 use Rattle.lists.proofs.Ladders.{unless-none}
 use Rattle.method.specs.Circuit.{Circuit}
@@ -26,9 +26,8 @@ use Rattle.circuit.specs.File.{circuitOf}
 use Rattle.circuit.proofs.Bounded.{time-small}
 use Rattle.planner.specs.Limits.{mostNetFrames}
 use Rattle.planner.specs.Areas as areas
-use Rattle.planner.specs.Layout.{laid}
+use Rattle.planner.specs.Layout.{laid, firstFrame, frameCount}
 use Rattle.planner.specs.Plan as planner
-use Rattle.planner.proofs.Accepted.{circuit-within}
 use Rattle.planner.proofs.Fitting.{fits-total, fits-net}
 use Rattle.planner.proofs.Laying.{pair-first, pair-count, times-part, frames-end}
 use Rattle.engine.specs.Areas.{Areas, allCleared}
@@ -39,6 +38,7 @@ use Rattle.engine.specs.After.{Ran, After, Alike, AfterRun, timesOf, val
 use Rattle.engine.proofs.Seeing.{all-yes}
 use Rattle.engine.proofs.Accepted.{Held, held, filled-plan}
 use Rattle.engine.proofs.Parts.{nets-count, word-each, words-part}
+use Rattle.circuit.proofs.Parts.{circuit-within}
 
 -- ---- a look at such parts is answered
 
@@ -69,7 +69,7 @@ module _ (file before after : List ℕ) {a : Areas} (b : Held file before after 
   pub frames-few : length (framesAt c n .times) ≤ mostNetFrames
   frames-few = fits-net (frames c) (b .fit) n
 
-  count-is : getD (a .plan .directory) (2 * n + 1) 0 ≡ length (framesAt c n .times)
+  count-is : frameCount (a .plan .directory) n ≡ length (framesAt c n .times)
   count-is = pair-count (frames c) (b .plan-is) n there
 
   pub times-are : timesOf a n ≡ framesAt c n .times
@@ -78,7 +78,7 @@ module _ (file before after : List ℕ) {a : Areas} (b : Held file before after 
   pub values-are : valuesOf a n ≡ packedValues c before after n
   values-are = words-part c before after (b .plan-is) n (b .size) h (b .values-are)
 
-  inside : getD (a .plan .directory) (2 * n) 0 + getD (a .plan .directory) (2 * n + 1) 0 ≤ 2048
+  inside : firstFrame (a .plan .directory) n + frameCount (a .plan .directory) n ≤ 2048
   inside = omega (arith, pair-first (frames c) (b .plan-is) n there, count-is, frames-end (frames c) n there, fits-total (frames c) (b .fit))
 
   module _ (L : ℕ) (l : L < 64) where
@@ -123,20 +123,22 @@ after-run file before after a r =
 
 -- ---- two runs
 
-runs-alike : (file before after before′ after′ : List ℕ) (a a′ : Areas) (L : ℕ) → L < 64 → Ran file before after a → Ran file before′ after′ a′
-    → AgreeIn L (circuitOf file .inputs) before before′ → AgreeIn L (circuitOf file .inputs) after after′ → Alike file L a a′
-runs-alike file before after before′ after′ a a′ L l r r′ p q =
+runs-alike : (file file′ before after before′ after′ : List ℕ) (a a′ : Areas) (L : ℕ) → L < 64 → Ran file before after a → Ran file′ before′ after′ a′ → circuitOf file ≡ circuitOf file′
+    → AgreeIn L (circuitOf file .inputs) before before′ → AgreeIn L (circuitOf file .inputs) after after′ → Alike (circuitOf file) L a a′
+runs-alike file file′ before after before′ after′ a a′ L l r r′ same p q =
     let b = held file before after r in
-    let b′ = held file before′ after′ r′ in
+    let b′ = held file′ before′ after′ r′ in
     record {
       same-level = λ n t h.
           level-lane file before after b n h L l t
           ∙ ap accepted (in-lanes .same-level (circuitOf file) before after before′ after′ L l p q n t)
-          ∙ sym (level-lane file before′ after′ b′ n h L l t);
+          ∙ ap (λ (c : Circuit). accepted (laneLevel L c before′ after′ n t)) same
+          ∙ sym (level-lane file′ before′ after′ b′ n (rw same at h) L l t);
       same-count = λ n h.
           count-lane file before after b n h L l
           ∙ ap accepted (in-lanes .same-count (circuitOf file) before after before′ after′ L l p q n)
-          ∙ sym (count-lane file before′ after′ b′ n h L l);
+          ∙ ap (λ (c : Circuit). accepted (laneCount L c before′ after′ n)) same
+          ∙ sym (count-lane file′ before′ after′ b′ n (rw same at h) L l);
     }
 
 -- ---- what the words do not enter

@@ -18,10 +18,10 @@ use Rattle.circuit.specs.Questions as reader
 use Rattle.circuit.proofs.Gated.{questions-numbered}
 use Rattle.planner.specs.Areas as planner
 use Rattle.planner.specs.Questions as plan
-use Rattle.planner.proofs.Accepted.{inputs-are, gates-are}
 use Rattle.engine.specs.Areas.{Areas, areas}
 use Rattle.engine.specs.Questions.{valuesLength, areasSuit, wordsSuit, ownQuestions, firstQuestions}
 use Rattle.engine.specs.Steps.{Asked}
+use Rattle.circuit.proofs.Parts.{inputs-are, gates-are}
 
 -- ---- questions 10 and 11
 

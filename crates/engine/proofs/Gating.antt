@@ -1,79 +1,49 @@
 -- Gate by gate over the areas of a plan: a gate's fan-in rows point to frames of nets that are evaluated already, and there
 -- its words are in every lane the gate's own trace of that lane. So one gate more makes the packed values of one net more.
 -- Assumes nothing.
-use Prim.Native.Nat.{ℕ, zero, suc, _+_, _-_, _*_, _<_, _≤_}
-use mathlib.Core.Path.{_≡_, refl, sym, ap, ap₂, _∙_, fun-ext}
+use Prim.Native.Nat.{ℕ, suc, _+_, _-_, _*_, _<_, _≤_}
+use mathlib.Core.Path.{_≡_, sym, ap, ap₂, _∙_, fun-ext}
 use mathlib.Core.Bool.{Bool, true, false}
-use mathlib.Core.List.{List, [], _∷_, _++_, map, flatMap, flatten}
+use mathlib.Core.List.{List, _++_, map, flatten}
 use native.Mathlib.Omega.{arith}
 use native.Mathlib.Nat.{add-zero, suc-mul, add-assoc, mul-le-mul-right}
 use lib.ListN.{length, getD, take, length-append}
-use lib.Seq.{sets, take-suc, take-take, getD-take, length-take-le}
+use lib.Seq.{sets, take-suc, getD-take}
 use borrow.Author.Tests.{eq-eqb}
 use Rattle.lists.specs.Tables.{tabulate, tabulateFrom}
-use mathlib.Core.Logic.{inl, inr}
-use Rattle.lists.proofs.Choices.{order}
 use Rattle.lists.proofs.Tabled.{from-length, from-ext, tabulate-at, map-from, map-at}
-use Rattle.lists.proofs.Flat.{seam-at, table-at, table-length}
+use Rattle.lists.proofs.Flat.{seam-at, table-at, table-length, flat-next, flat-at}
 use Rattle.lists.proofs.Storing.{take-stored}
 use Rattle.method.specs.Kinds.{gateFn, takes}
-use Rattle.method.specs.Circuit.{Circuit, gateAt, NoFeedback}
+use Rattle.method.specs.Circuit.{Circuit, gateAt}
 use Rattle.method.specs.Stimulus.{Stimuli}
-use Rattle.method.specs.Indices.{faninIndex, inertialIndices}
+use Rattle.method.specs.Indices.{faninIndex}
 use Rattle.method.specs.Frames.{Frames, noFrames, frames, framesAt}
 use Rattle.method.specs.Filter.{filtered}
 use Rattle.method.specs.Traces.{traceAt}
 use Rattle.method.specs.Words.{lanes, lane}
 use Rattle.method.specs.Packed.{laneOf, packedWord, packedValues}
 use Rattle.method.specs.Netwise.{rawOf, EveryGate}
-use Rattle.method.proofs.Netwise.{net-by-net}
-use Rattle.method.proofs.Rising.{Rise, Starts}
-use Rattle.method.proofs.Lasting.{upTo-low}
-use Rattle.method.proofs.Planned.{inertial-length, times-start}
+use Rattle.method.proofs.Netwise.{net-by-net, indices-each}
+use Rattle.method.proofs.Lasting.{starts-counted}
+use Rattle.method.proofs.Planned.{times-start}
 use Rattle.method.proofs.Bits.{pack-lane, pack-ext}
 use Rattle.circuit.specs.declared.GateRecord.{GateRecord}
 use Rattle.circuit.specs.File.{inputsOf, gatesOf, faninAt, recordOf, circuitOf}
 use Rattle.circuit.proofs.Accepted as reader
 use Rattle.circuit.proofs.Faithful.{gate-within}
 use Rattle.circuit.proofs.Bounded.{no-feedback}
-use Rattle.circuit.proofs.Parts.{gates-length, gateFrom, gate-from, RecordWithin}
+use Rattle.circuit.proofs.Parts.{gates-length, gateFrom, gate-from, RecordWithin, circuit-inputs, circuit-within, within, gate-read, few}
 use Rattle.planner.specs.Layout.{firstFrame, frameCount, partOf, allTimes, allFanins}
-use Rattle.planner.proofs.Accepted.{circuit-inputs, circuit-within, within, gate-read, few}
-use Rattle.planner.proofs.Laying.{pair-first, pair-count, inertial-part, fanin-at, frames-end, fanins-end, fanins-more}
+use Rattle.planner.proofs.Laying.{pair-first, pair-count, inertial-part, fanin-at, frames-end, fanins-end, fanins-more, times-next, frames-below}
 use Rattle.words.specs.Filtered.{filteredWords}
 use Rattle.engine.specs.Steps.{gateWord, target, sourceAt, sources, rawWords, basesOf, gateWords, Ready, Planned, Holds}
 use Rattle.engine.proofs.Writing.{raw-length}
-use Rattle.engine.proofs.Parts.{nets-count, word-each, words-before, flat-at, flat-next, times-next}
+use Rattle.engine.proofs.Parts.{nets-count, word-each, words-before}
+use Rattle.planner.proofs.Prefix.{no-rows}
 
 entry-fits : (k n m e : ℕ) → k < n → e < m → k * m + e < n * m
 entry-fits k n m e h l = let q : suc k * m ≤ n * m = mul-le-mul-right m h in omega (arith, suc-mul k m)
-
--- without an inertial delay no later frame counts
-none-counted : (p : ℕ) (ts : List ℕ) → Rise p ts → (k : ℕ) → getD (inertialIndices 0 ts) k 0 ≡ 0
-none-counted p [] r k = refl
-none-counted p (t ∷ ts) r zero = rw (let q : t + 0 ≡ t = omega arith in q) (upTo-low t ts (r .1))
-none-counted p (t ∷ ts) r (suc k) = none-counted t ts (r .1) k
-
-starts-counted : (ts : List ℕ) → Starts ts → (k : ℕ) → getD (inertialIndices 0 ts) k 0 ≡ 0
-starts-counted [] s k = absurd s
-starts-counted (t ∷ ts) s zero = rw (let q : t + 0 ≡ t = omega arith in q) (upTo-low t ts (s .1))
-starts-counted (t ∷ ts) s (suc k) = none-counted t ts (s .1) k
-
--- an inertial index a frame
-indices-each : (c : Circuit) → NoFeedback c → (m : ℕ) → m < length (frames c) → length (framesAt c m .inertial) ≡ length (framesAt c m .times)
-indices-each c ok m h =
-    elim (order (c .inputs) m) [
-      | inl l ↦ (let q : m ≡ c .inputs + (m - c .inputs) = omega arith in
-          let k : m - c .inputs < length (c .gates) = omega (arith, nets-count c) in
-          rw q (ap length (net-by-net c .1 ok .gate-inertial (m - c .inputs) k) ∙ inertial-length (gateAt c (m - c .inputs) .inertial) (framesAt c (c .inputs + (m - c .inputs)) .times)))
-      | inr l ↦ rw (net-by-net c .0 .input-inertial m l, net-by-net c .0 .input-times m l)
-    ]
-
--- the frames of net m lie before those of a later net
-frames-below : (fs : List Frames) (m n : ℕ) → m < n → n ≤ length fs → length (allTimes (take m fs)) + length (getD fs m noFrames .times) ≤ length (allTimes (take n fs))
-frames-below fs m n h l =
-    let e = frames-end (take n fs) m (rw (length-take-le n fs l) h) in
-    rw (take-take m n fs (omega arith), getD-take n fs m noFrames h) at e
 
 -- ---- gate j of an accepted file, in the areas of its plan
 
@@ -282,15 +252,6 @@ module _ {file d i f : List ℕ} (p : Planned file d i f) where
     rows-next = rw (take-suc fs net noFrames there, own-count, ← rows-length) (fanins-more (take net fs) (framesAt c net))
 
 -- ---- the loop over the gates
-
--- inputs have no fan-in rows
-no-rows : (x : Circuit) (n : ℕ) → n ≤ x .inputs → length (allFanins (take n (frames x))) ≡ 0
-unfolding flatMap flatten
-no-rows x zero h = refl
-no-rows x (suc n) h =
-    let some : n < length (frames x) = omega (arith, nets-count x) in
-    rw (take-suc (frames x) n noFrames some)
-    (omega (arith, fanins-more (take n (frames x)) (framesAt x n), no-rows x n (omega arith), ap (λ (rs : List (List ℕ)). length (flatten rs)) (net-by-net x .0 .input-rows n (omega arith))))
 
 module _ {file d i f : List ℕ} (p : Planned file d i f) {inputs : ℕ} (e : inputs ≡ inputsOf file) where
   net-is : inputs ≡ circuitOf file .inputs

@@ -21,12 +21,12 @@ use Rattle.planner.specs.Areas.{Areas, areas, allCleared}
 use Rattle.planner.specs.Layout.{allTimes, laid}
 use Rattle.planner.specs.Questions.{areasSuit, fits, ownQuestions, questions}
 use Rattle.planner.specs.Plan.{totalsOf, leftBy, Outcome, outcome, onPaper, planOf}
-use Rattle.planner.proofs.Accepted.{few}
 use Rattle.planner.proofs.Calling as planner
 use Rattle.planner.proofs.Fitting.{fits-total}
 use Rattle.engine.specs.Areas as engine
 use Rattle.engine.specs.Steps.{Asked, Planned}
 use Rattle.engine.proofs.Asking.{passed}
+use Rattle.circuit.proofs.Parts.{few}
 
 -- question 13, the last
 abbrev pub lastQuestion : List ℕ → List Question

@@ -3,21 +3,21 @@
 -- Assumes nothing.
 use Prim.Native.Nat.{ℕ, zero, suc, _+_, _-_, _≤_, _<_}
 use mathlib.Core.Path.{_≡_, refl, sym, ap, ap₂, _∙_}
-use mathlib.Core.List.{List, [], _∷_, _++_, flatMap, flatten, append-assoc, append-nil}
+use mathlib.Core.List.{List, _++_, flatMap, flatten, append-assoc}
 use native.Mathlib.Omega.{arith}
-use lib.ListN.{length, getD, take, replicate, length-append}
-use lib.Seq.{take-suc, take-length}
+use lib.ListN.{length, take, replicate, length-append}
+use lib.Seq.{take-length}
 use Rattle.lists.specs.Tables.{tabulateFrom, tabulate}
 use Rattle.lists.specs.Areas.{padded}
-use Rattle.lists.proofs.Flat.{flatten-append}
-use Rattle.lists.proofs.Tabled.{from-length, tabulate-snoc, tabulate-split}
+use Rattle.lists.proofs.Flat.{flat-next, flat-at}
+use Rattle.lists.proofs.Tabled.{from-length}
 use Rattle.method.specs.Circuit.{Circuit}
-use Rattle.method.specs.Frames.{Frames, noFrames, frames, framesAt}
+use Rattle.method.specs.Frames.{Frames, frames, framesAt}
 use Rattle.method.specs.Packed.{packedValues}
 use Rattle.method.proofs.Netwise.{net-by-net}
 use Rattle.planner.specs.Areas as planner
 use Rattle.planner.specs.Layout.{allTimes, laid, partOf}
-use Rattle.planner.proofs.Laying.{part-at, times-snoc}
+use Rattle.planner.proofs.Laying.{part-at, times-next}
 use Rattle.engine.specs.Values.{netCount, allValues}
 
 pub nets-count : (c : Circuit) → length (frames c) ≡ netCount c
@@ -27,18 +27,6 @@ nets-count c = net-by-net c .0 .frames-count
 none-before : (f : ℕ → List ℕ) (fs : List Frames) → length (flatten (tabulate 0 f)) ≡ length (allTimes (take 0 fs))
 unfolding flatten flatMap tabulateFrom
 none-before f fs = refl
-
-pub flat-next : (f : ℕ → List ℕ) (n : ℕ) → flatten (tabulate (suc n) f) ≡ flatten (tabulate n f) ++ f n
-unfolding flatten
-flat-next f n = ap flatten (tabulate-snoc n f) ∙ flatten-append (tabulate n f) (f n ∷ []) ∙ ap (λ (l : List ℕ). flatten (tabulate n f) ++ l) (append-nil (f n))
-
--- what net m has stands behind what the nets before it have
-pub flat-at : (f : ℕ → List ℕ) (n m : ℕ) → m < n → flatten (tabulate n f) ≡ flatten (tabulate m f) ++ (f m ++ flatten (tabulateFrom (n - (m + 1)) (m + 1) f))
-unfolding flatten
-flat-at f n m h = ap flatten (tabulate-split n m f h) ∙ flatten-append (tabulate m f) (f m ∷ tabulateFrom (n - (m + 1)) (m + 1) f)
-
-pub times-next : (fs : List Frames) (n : ℕ) → n < length fs → allTimes (take (suc n) fs) ≡ allTimes (take n fs) ++ getD fs n noFrames .times
-times-next fs n h = ap (λ (l : List Frames). allTimes l) (take-suc fs n noFrames h) ∙ times-snoc (take n fs) (getD fs n noFrames)
 
 module _ (c : Circuit) (before after : List ℕ) where
   abbrev words : ℕ → List ℕ

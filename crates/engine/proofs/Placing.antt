@@ -1,20 +1,15 @@
 -- The words of one gate put into the values area: the raw words first, then the filtered ones in their place.
 -- Assumes nothing.
-use Prim.Native.Nat.{ℕ, zero, suc, _+_, _-_, _*_, _<_, _≤_}
+use Prim.Native.Nat.{ℕ, zero, suc, _+_, _-_, _*_, _<_}
 use mathlib.Core.Path.{_≡_, refl, sym, ap, _∙_}
-use mathlib.Core.Bool.{Bool, false, Bool·beq}
-use mathlib.Core.Logic.{inl, inr}
-use mathlib.Core.List.{List, [], _∷_, _++_, map, append-assoc}
+use mathlib.Core.List.{List, [], _∷_}
 use native.Mathlib.Omega.{arith}
-use lib.ListN.{length, getD, take, drop, length-map, length-drop}
-use lib.Seq.{sets, sets-eq, length-take-le, take-at, drop-at, ext-getD}
+use lib.ListN.{length, getD, take, drop}
+use lib.Seq.{sets}
 use borrow.Rule.Slice.PartMut.{putMid}
-use borrow.Author.Tests.{eq-eqb}
-use Rattle.lists.proofs.Choices.{either}
-use Rattle.lists.proofs.Tabled.{from-length, from-ext, tabulate-at}
-use Rattle.method.specs.Filter.{keep, filterFrom, filtered}
+use Rattle.lists.proofs.Tabled.{from-ext, tabulate-at}
 use Rattle.method.specs.Words.{lanes, lane, pack}
-use Rattle.method.proofs.Bits.{getD-lane, pack-lt, pack-lane, pack-is}
+use Rattle.method.proofs.Bits.{pack-lt, pack-is}
 use Rattle.circuit.specs.declared.GateRecord.{GateRecord}
 use Rattle.circuit.specs.File.{faninAt}
 use Rattle.engine.specs.declared.rows.Rule.{Rule}
@@ -22,6 +17,9 @@ use Rattle.planner.specs.Layout.{firstFrame, frameCount, partOf}
 use Rattle.words.specs.Filtered.{filteredWords}
 use Rattle.engine.specs.Steps.{gateWord, target, rawWords, Raw, basesOf, Bases, gateWords, Ready, ruleOf}
 use Rattle.engine.proofs.Writing.{raw-length, raw-at}
+use Rattle.lists.proofs.Storing.{stored-part, put-part}
+use Rattle.words.proofs.Filtering.{filtered-length, still-words}
+use Rattle.planner.proofs.Laying.{part-length}
 
 -- ---- an array that holds the bases
 
@@ -64,70 +62,7 @@ pair-bases file d list {x} {y} {entries} q a b = record { base = λ e h. go e (r
     go (suc zero) h = b
     go (suc (suc e)) h = absurd (omega arith)
 
--- ---- without an inertial delay the filter leaves the words as they are
-
-keep-none : (v r : Bool) → keep v r [] ≡ r
-keep-none v r = elim (either (Bool·beq r v)) [ inl e ↦ rw e | inr e ↦ rw e ]
-
-still-from : (v : Bool) (ks : List ℕ) (bs : List Bool) → length ks ≡ length bs → ((k : ℕ) → getD ks k 0 ≡ 0) → filterFrom v ks bs ≡ bs
-still-from v [] [] e h = refl
-still-from v [] (b ∷ bs) e h = absurd (omega arith)
-still-from v (k ∷ ks) [] e h = refl
-still-from v (k ∷ ks) (b ∷ bs) e h = rw (h 0, keep-none v b) (ap (λ (l : List Bool). b ∷ l) (still-from b ks bs (omega arith) (λ k. h (suc k))))
-
-still-bits : (ks : List ℕ) (bs : List Bool) → length ks ≡ length bs → ((k : ℕ) → getD ks k 0 ≡ 0) → filtered ks bs ≡ bs
-still-bits ks [] e h = refl
-still-bits [] (b ∷ bs) e h = absurd (omega arith)
-still-bits (k ∷ ks) (b ∷ bs) e h = ap (λ (l : List Bool). b ∷ l) (still-from b ks bs (omega arith) (λ k. h (suc k)))
-
-still-words : (ks ws : List ℕ) → length ks ≡ length ws → ((k : ℕ) → getD ks k 0 ≡ 0) → ((k : ℕ) → k < length ws → getD ws k 0 ≡ pack lanes (λ (L : ℕ). lane L (getD ws k 0))) → filteredWords ks ws ≡ ws
-unfolding filteredWords
-still-words ks ws e h p =
-    rw (eq-eqb (length ks) (length ws) e)
-    (ext-getD 0 _ ws (from-length (length ws) 0 _)
-    (λ k l. let b : k < length ws = rw (from-length (length ws) 0 _) at l in
-    tabulate-at (length ws) _ 0 k b
-    ∙ sym (p k b ∙ pack-same k)))
-  where
-    pack-same : (k : ℕ) → pack lanes (λ (L : ℕ). lane L (getD ws k 0)) ≡ pack lanes (λ (L : ℕ). getD (filtered ks (map (lane L) ws)) k false)
-    pack-same k =
-        pack-is lanes (pack lanes (λ (L : ℕ). lane L (getD ws k 0))) _ (pack-lt lanes _)
-        (λ L l. pack-lane lanes _ L l ∙ getD-lane L ws k ∙ ap (λ (bs : List Bool). getD bs k false) (sym (still-bits ks (map (lane L) ws) (e ∙ sym (length-map ws (lane L))) h)))
-
--- ---- a list stored at `first`, and the part that it fills
-
-module _ (v xs : List ℕ) (first n : ℕ) (h : first + n ≤ length v) (l : length xs ≡ n) where
-  split : sets v first xs ≡ take first v ++ (xs ++ drop (first + n) v)
-  split = sets-eq xs v first (omega arith) ∙ rw (l, append-assoc)
-
-  low : length (take first v) ≡ first
-  low = length-take-le first v (omega arith)
-
-  stored-drop : drop first (sets v first xs) ≡ xs ++ drop (first + n) v
-  stored-drop = rw (split, drop-at (take first v) (xs ++ drop (first + n) v) first low)
-
-  stored-part : take n (drop first (sets v first xs)) ≡ xs
-  stored-part = rw (stored-drop, take-at xs (drop (first + n) v) n l)
-
-  pub stored-take : take first (sets v first xs) ≡ take first v
-  stored-take = rw (split, take-at (take first v) (xs ++ drop (first + n) v) first low)
-
-  stored-past : drop n (drop first (sets v first xs)) ≡ drop (first + n) v
-  stored-past = rw (stored-drop, drop-at xs (drop (first + n) v) n l)
-
--- the part put back changed
-put-part : (v xs ys : List ℕ) (first n : ℕ) → first + n ≤ length v → length xs ≡ n → length ys ≡ n → putMid first n (sets v first xs) ys ≡ sets v first ys
-put-part v xs ys first n h l k = rw (stored-take v xs first n h l, stored-past v xs first n h l, split v ys first n h k)
-
 -- ---- one gate
-
-filtered-length : (ks ws : List ℕ) → length ks ≡ length ws → length (filteredWords ks ws) ≡ length ws
-unfolding filteredWords
-filtered-length ks ws e = rw (eq-eqb (length ks) (length ws) e) (from-length (length ws) 0 _)
-
-part-length : (d i : List ℕ) (net : ℕ) → firstFrame d net + frameCount d net ≤ length i → length (partOf d i net) ≡ frameCount d net
-unfolding partOf
-part-length d i net h = length-take-le (frameCount d net) (drop (firstFrame d net) i) (rw (length-drop (firstFrame d net) i) (omega arith))
 
 module _ {file d i f : List ℕ} {net : ℕ} {g : GateRecord} {at : ℕ} (v : List ℕ) (r : Ready file d i f (length v) net g at) where
   raws : List ℕ
@@ -147,7 +82,7 @@ module _ {file d i f : List ℕ} {net : ℕ} {g : GateRecord} {at : ℕ} (v : Li
       let e = raw-at v (basesOf file d g) f (g .kind) (g .entries) at (frameCount d net) k (rw raws-length at h) in
       pack-is lanes (getD raws k 0) _ (rw e (pack-lt lanes _)) (λ L l. refl)
 
-  pub words-length : length (gateWords file d i f net g at v) ≡ frameCount d net
+  words-length : length (gateWords file d i f net g at v) ≡ frameCount d net
   unfolding gateWords raws
   words-length = filtered-length (partOf d i net) raws even ∙ raws-length
 

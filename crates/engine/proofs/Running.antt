@@ -51,7 +51,7 @@ module _ (file : List ℕ) (a : Areas) (before after : ℕ) where
 
 -- what the first "no" leaves
 module _ (file before after : List ℕ) (a : Areas) where
-  left-none : leftBy 0 (circuitOf file) before after a ≡ filled (circuitOf file) before after a
+  pub left-none : leftBy 0 (circuitOf file) before after a ≡ filled (circuitOf file) before after a
   unfolding leftBy
   left-none = refl
 

@@ -17,7 +17,7 @@ use Rattle.method.specs.Times.{startAndRise}
 use Rattle.method.specs.Indices.{lastFrame}
 use Rattle.method.specs.Look.{changes}
 use Rattle.method.specs.Words.{lanes, lane}
-use Rattle.method.proofs.Rising.{Starts, test-starts}
+use Rattle.method.proofs.Rising.{test-starts}
 use Rattle.method.proofs.Lasting.{last-leading, last-within}
 use Rattle.method.proofs.Bits.{getD-lane}
 use Rattle.planner.specs.Limits.{mostNetFrames}
@@ -68,7 +68,7 @@ module _ (times values : List ℕ) (L : ℕ) where
 pub record Sound (times values : List ℕ) : Type 0 where
   pub same : length times ≡ length values
   pub few : length times ≤ mostNetFrames
-  pub starts : Starts times
+  pub rises : startAndRise times ≡ true
 
 sound : (times values : List ℕ) (L : ℕ) → firstNo (lookQuestions times values L) ≡ 0 → Sound times values
 unfolding lookQuestions
@@ -78,14 +78,14 @@ sound times values L e =
     record {
       same = eqb-true _ _ (and-left (eqb (length times) (length values)) _ (a .0));
       few = between-most-true 1 mostNetFrames (length times) (and-right (eqb (length times) (length values)) _ (a .0));
-      starts = test-starts times (b .0);
+      rises = b .0;
     }
 
 -- ---- Level and Count
 
 module _ (times values : List ℕ) (L : ℕ) {r : ℕ} (f : r ≡ firstNo (lookQuestions times values L)) where
-  pub cleared : r ≡ 0 → Sound times values
-  cleared z = sound times values L (sym f ∙ z)
+  pub answered : r ≡ 0 → Sound times values
+  answered z = sound times values L (sym f ∙ z)
 
   pub level-no : (t : ℕ) → (r ≡ 0 → ⊥) → seenOnPaper (S.Refused r) ≡ levelOf times values L t
   unfolding levelOf seenOnPaper
@@ -100,15 +100,21 @@ module _ (times values : List ℕ) (L : ℕ) {r : ℕ} (f : r ≡ firstNo (lookQ
     unfolding countOf countedOnPaper
     count-yes {n} e = rw (← f, ← e) (sym (unless-none r n z))
 
-    module _ (t : ℕ) {later : ℕ} (e : later ≡ 1 + leading t (drop 1 times)) where
-      found : later - 1 ≡ lastFrame times t
-      found = omega (arith, last-leading times t (cleared z .starts))
+    module _ (t : ℕ) {frame : ℕ} (e : frame ≡ lastFrame times t) where
+      pub within : frame < length values
+      within = omega (arith, e, last-within times t (test-starts times (answered z .rises)), answered z .same)
 
-      pub within : later - 1 < length values
-      within = omega (arith, found, last-within times t (cleared z .starts), cleared z .same)
-
-      pub level-yes : {b : Bool} → b ≡ lane L (getD values (later - 1) 0) → seenOnPaper (S.Level b) ≡ levelOf times values L t
+      pub level-yes : {b : Bool} → b ≡ lane L (getD values frame 0) → seenOnPaper (S.Level b) ≡ levelOf times values L t
       unfolding levelOf seenOnPaper
       level-yes {b} q =
-          let seen : b ≡ getD (map (lane L) values) (lastFrame times t) false = q ∙ getD-lane L values (later - 1) ∙ ap (λ (k : ℕ). getD (map (lane L) values) k false) found in
+          let seen : b ≡ getD (map (lane L) values) (lastFrame times t) false = q ∙ getD-lane L values frame ∙ ap (λ (k : ℕ). getD (map (lane L) values) k false) e in
           rw (← f, ← seen) (sym (unless-none r b z))
+
+-- ---- the frame
+
+module _ (times : List ℕ) (t : ℕ) (rises : startAndRise times ≡ true) {later : ℕ} (e : later ≡ 1 + leading t (drop 1 times)) where
+  pub found : later - 1 ≡ lastFrame times t
+  found = omega (arith, e, last-leading times t (test-starts times rises))
+
+  pub found-within : later - 1 < length times
+  found-within = omega (arith, found, last-within times t (test-starts times rises))

@@ -4,7 +4,7 @@
 use Prim.Native.Nat.{ℕ, zero, suc, _^_, _<_}
 use mathlib.Core.Path.{_≡_, refl, sym, ap, _∙_}
 use mathlib.Core.Logic.{inl, inr}
-use mathlib.Core.Bool.{Bool, true, false, not, _&&_, _||_, Bool·beq, or-false, and-false, or-assoc, true≢false, false≢true}
+use mathlib.Core.Bool.{Bool, true, false, not, _&&_, _||_, Bool·beq, or-false, and-false, true≢false, false≢true}
 use mathlib.Core.List.{List, [], _∷_, _++_, map, map-map}
 use native.Mathlib.Omega.{arith}
 use lib.Dec.{leb, eqb, lit<}
@@ -20,22 +20,15 @@ use Rattle.method.specs.Words.{lanes, lane}
 use Rattle.method.proofs.Bits.{and-lane, or-lane, xor-lane, not-lane, zero-lane, pack-is}
 use Rattle.engine.specs.declared.rows.Rule.{Rule}
 use Rattle.engine.specs.Steps.{SomeOf, OneOf, gateWord, mask, turned, exact, flipped, ruleOf}
+use Rattle.lists.proofs.Tabled.{map-snoc, some-snoc}
 
 abbrev xor : Bool → Bool → Bool
 xor a b = not (Bool·beq a b)
-
-map-snoc : {A B : Type 0} (f : A → B) (xs : List A) (x : A) → map f (xs ++ (x ∷ [])) ≡ map f xs ++ (f x ∷ [])
-map-snoc f [] x = refl
-map-snoc f (y ∷ xs) x = ap (λ l. f y ∷ l) (map-snoc f xs x)
 
 -- ---- some entry, turned
 
 pub some-none : (turn : ℕ) → SomeOf turn [] 0
 some-none turn = record { is = zero-lane }
-
-some-snoc : (bs : List Bool) (b : Bool) → some (bs ++ (b ∷ [])) ≡ some bs || b
-some-snoc [] b = or-false b
-some-snoc (c ∷ bs) b = ap (λ (x : Bool). c || x) (some-snoc bs b) ∙ sym (or-assoc c (some bs) b)
 
 -- a word more
 pub some-more : {turn word : ℕ} {ws : List ℕ} → SomeOf turn ws word → (w : ℕ) → SomeOf turn (ws ++ (w ∷ [])) (bitOr word (bitXor w turn))

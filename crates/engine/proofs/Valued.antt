@@ -1,29 +1,28 @@
 -- The values area: the words of the inputs, those of all nets, and zeros behind them.
 -- Assumes nothing.
-use Prim.Native.Nat.{ℕ, zero, suc, _+_, _-_, _*_, _≤_, _<_}
-use mathlib.Core.Path.{_≡_, refl, sym, ap, ap₂, _∙_}
-use mathlib.Core.List.{List, [], _∷_, _++_, flatten, flatMap, append-nil}
+use Prim.Native.Nat.{ℕ, _+_, _-_, _*_, _≤_, _<_}
+use mathlib.Core.Path.{_≡_, sym, ap, ap₂, _∙_}
+use mathlib.Core.List.{List, [], _∷_, _++_, flatten, append-nil}
 use native.Mathlib.Omega.{arith}
 use lib.ListN.{length, getD, take, drop, replicate, length-drop, drop-of-length-le}
-use lib.Seq.{take-suc, take-length, length-take-le}
+use lib.Seq.{take-length, length-take-le}
 use borrow.Rule.Slice.PartMut.{mid-len}
 use Rattle.lists.specs.Areas.{cleared, padded}
 use Rattle.lists.specs.Tables.{tabulateFrom, tabulate}
 use Rattle.lists.proofs.Tabled.{from-ext}
 use Rattle.method.specs.Circuit.{Circuit}
 use Rattle.method.specs.Words.{lanes, lane}
-use Rattle.method.specs.Frames.{noFrames, frames, framesAt}
+use Rattle.method.specs.Frames.{frames}
 use Rattle.method.specs.Traces.{traceAt}
 use Rattle.method.specs.Packed.{laneOf, packedWord, packedValues}
 use Rattle.method.proofs.Bits.{pack-ext}
 use Rattle.method.proofs.Netwise.{net-by-net}
 use Rattle.circuit.specs.File.{inputsOf, gatesOf, circuitOf}
-use Rattle.circuit.proofs.Parts.{gates-length}
+use Rattle.circuit.proofs.Parts.{gates-length, circuit-inputs}
 use Rattle.planner.specs.Layout.{allTimes}
-use Rattle.planner.proofs.Laying.{total-more}
-use Rattle.planner.proofs.Accepted.{circuit-inputs}
 use Rattle.engine.specs.Values.{netCount, allValues}
 use Rattle.engine.specs.Steps.{Holds, repacked, inputWords}
+use Rattle.planner.proofs.Prefix.{input-frames}
 
 -- ---- the inputs
 
@@ -39,15 +38,6 @@ module _ (c : Circuit) (before after : List ℕ) where
   all-inputs : inputWords before after (c .inputs) ≡ flatten (tabulate (c .inputs) (packedValues c before after))
   unfolding inputWords
   all-inputs = ap flatten (from-ext (c .inputs) 0 _ (packedValues c before after) (λ i l u. sym (input-words i (omega arith))))
-
--- an input has two frames
-input-frames : (c : Circuit) (n : ℕ) → n ≤ c .inputs → length (allTimes (take n (frames c))) ≡ 2 * n
-unfolding flatMap
-input-frames c zero h = refl
-input-frames c (suc n) h =
-    let some : n < length (frames c) = omega (arith, net-by-net c .0 .frames-count) in
-    rw (take-suc (frames c) n noFrames some)
-    (omega (arith, total-more (take n (frames c)) (framesAt c n), input-frames c n (omega arith), ap length (net-by-net c .0 .input-times n (omega arith))))
 
 module _ (file before after : List ℕ) where
   pub holds-inputs : {inputs : ℕ} → inputs ≡ inputsOf file → length before ≡ inputsOf file → {v : List ℕ} → take (2 * length before) v ≡ inputWords before after (length before)

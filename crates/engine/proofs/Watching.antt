@@ -23,7 +23,6 @@ use Rattle.circuit.specs.File.{circuitOf}
 use Rattle.planner.specs.declared.Totals.{Totals}
 use Rattle.planner.specs.declared.Planning.{Planning}
 use Rattle.planner.specs.declared.Planning.the-variants as Q
-use Rattle.planner.specs.Areas as planner
 use Rattle.planner.specs.Layout.{frameCount, partOf, allTimes}
 use Rattle.planner.specs.Plan.{totalsOf, onPaper}
 use Rattle.planner.proofs.Laying.{pair-first, pair-count, frames-end, no-first, no-count, times-room}

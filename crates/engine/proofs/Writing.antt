@@ -21,7 +21,7 @@ row-fits : (i n m : ℕ) → i < n → i * m + m ≤ n * m
 row-fits i n m h = let l : (i + 1) * m ≤ n * m = mul-le-mul-right m (omega arith) in let q : (i + 1) * m ≡ i * m + m = omega arith in omega arith
 
 -- the words of a row from words that are the same wherever it points
-pub sources-same : (v w bases fan : List ℕ) (at entries : ℕ) → ((e : ℕ) → e < entries → sourceAt v bases fan at e ≡ sourceAt w bases fan at e)
+sources-same : (v w bases fan : List ℕ) (at entries : ℕ) → ((e : ℕ) → e < entries → sourceAt v bases fan at e ≡ sourceAt w bases fan at e)
     → sources v bases fan at entries ≡ sources w bases fan at entries
 sources-same v w bases fan at entries h = from-ext entries 0 _ _ (λ e a b. h e (omega arith))
 

@@ -7,6 +7,7 @@ use mathlib.Core.Bool.{true}
 use mathlib.Core.List.{List}
 use lib.ListN.{length}
 use Rattle.lists.specs.Ladder.{accepted}
+use Rattle.method.specs.Circuit.{Circuit}
 use Rattle.method.specs.Times.{among}
 use Rattle.method.specs.Machine.{machine}
 use Rattle.method.specs.Packed.{laneOf}
@@ -55,18 +56,16 @@ pub record After (file before after : List ℕ) (a : Areas) : Type 0 where
   -- and these entries are the net's potential times
   pub times-are-potential : (n t : ℕ) → n < netCount (circuitOf file) → among t (timesOf a n) ≡ potential (circuitOf file) n t
 
--- two accepted runs of one file whose words agree in lane L, whatever the other lanes hold and whatever stood in the areas
-pub record Alike (file : List ℕ) (L : ℕ) (a a′ : Areas) : Type 0 where
-  pub same-level : (n t : ℕ) → n < netCount (circuitOf file)
-      → levelOf (timesOf a n) (valuesOf a n) L t ≡ levelOf (timesOf a′ n) (valuesOf a′ n) L t
-  pub same-count : (n : ℕ) → n < netCount (circuitOf file)
-      → countOf (timesOf a n) (valuesOf a n) L ≡ countOf (timesOf a′ n) (valuesOf a′ n) L
+-- two accepted runs of one circuit c whose words agree in lane L, whatever the other lanes hold and whatever stood in the areas
+pub record Alike (c : Circuit) (L : ℕ) (a a′ : Areas) : Type 0 where
+  pub same-level : (n t : ℕ) → n < netCount c → levelOf (timesOf a n) (valuesOf a n) L t ≡ levelOf (timesOf a′ n) (valuesOf a′ n) L t
+  pub same-count : (n : ℕ) → n < netCount c → countOf (timesOf a n) (valuesOf a n) L ≡ countOf (timesOf a′ n) (valuesOf a′ n) L
 
 pub record AfterRun : Type 0 where
   pub after-run : (file before after : List ℕ) (a : Areas) → Ran file before after a → After file before after a
-  pub runs-alike : (file before after before′ after′ : List ℕ) (a a′ : Areas) (L : ℕ) → L < 64
-      → Ran file before after a → Ran file before′ after′ a′
-      → AgreeIn L (circuitOf file .inputs) before before′ → AgreeIn L (circuitOf file .inputs) after after′ → Alike file L a a′
+  pub runs-alike : (file file′ before after before′ after′ : List ℕ) (a a′ : Areas) (L : ℕ) → L < 64
+      → Ran file before after a → Ran file′ before′ after′ a′ → circuitOf file ≡ circuitOf file′
+      → AgreeIn L (circuitOf file .inputs) before before′ → AgreeIn L (circuitOf file .inputs) after after′ → Alike (circuitOf file) L a a′
   -- no pattern bit enters a number, a plan area or the totals: word lists of equal lengths give the same answer and the
   -- same four plan areas
   pub words-alike : (file before after before′ after′ : List ℕ) (a : Areas) → length before ≡ length before′ → length after ≡ length after′

@@ -47,13 +47,13 @@ pub(crate) fn all_gates(
         let gate = circuit::gate_at(file, j);
         let net = Net(inputs + j);
         gate_words(file, directory, inertial, fanins, values, net, gate, at);
-        at += rows_of(directory, net, gate);
+        at += entries_of(directory, net, gate);
         j += 1;
     }
 }
 
 // How many fan-in entries the frames of a gate on this net have.
-fn rows_of(directory: &[u16], net: Net, gate: GateRecord) -> usize
+fn entries_of(directory: &[u16], net: Net, gate: GateRecord) -> usize
     requires { ⌜ 2 * net .0 + 1 < length (now directory) ⌝ }
     ensures { λ r. ⌜ r ≡ frameCount (now (directory .entry)) (net .0) * gate .entries ⌝ }
 {

@@ -20,6 +20,7 @@ use circuit::Reading;
 use gates::all_gates;
 use gates::input_words;
 use looking::changes;
+use looking::last_frame;
 use looking::look_fault;
 use method::Net;
 use method::Time;
@@ -182,9 +183,8 @@ pub fn level(times: &[u16], values: &[u64], lane: u8, time: Time) -> Seen
     if fault != 0 {
         return Seen::Refused(fault);
     }
-    // The first later frame, and there is one before it: time 0 is not later.
-    let later = lists::first_above(times, 1, time.0);
-    Seen::Level(words::bit_of(values[later - 1], lane))
+    let frame = last_frame(times, time);
+    Seen::Level(words::bit_of(values[frame.0 as usize], lane))
 }
 
 // How often a lane changes, from one net's parts of the times and the values: questions 14 to 16.

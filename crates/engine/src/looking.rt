@@ -1,14 +1,18 @@
 // Looking at one net's parts of the times and the values.
 ghost use mathlib.Core.Path.{_≡_};
+ghost use mathlib.Core.Bool.{true};
 ghost use mathlib.Core.List.{map};
 ghost use Prim.Native.Nat.{_≤_};
 ghost use lib.ListN.{length};
 ghost use Rattle.lists.specs.Ladder.{firstNo};
 ghost use Rattle.method.specs.Times.{startAndRise};
+ghost use Rattle.method.specs.Indices.{lastFrame};
 ghost use Rattle.method.specs.Look as look;
 ghost use Rattle.method.specs.Words as bits;
 ghost use Rattle.planner.specs.Limits.{mostNetFrames};
 ghost use Rattle.engine.specs.Look.{lookQuestions};
+use method::Frame;
+use method::Time;
 
 // A net has at most this many frames.
 const MOST_NET_FRAMES: usize = 64;
@@ -56,6 +60,15 @@ fn start_and_rise(times: &[u16]) -> bool
         k += 1;
     }
     true
+}
+
+// The last frame not later than the time. There is one, since time 0 is not later.
+pub(crate) fn last_frame(times: &[u16], time: Time) -> Frame
+    requires { ⌜ (startAndRise (now times) ≡ true) × (length (now times) ≤ mostNetFrames) ⌝ }
+    ensures { λ r. ⌜ r .0 ≡ lastFrame (now (times .entry)) (time .0) ⌝ }
+{
+    let later = lists::first_above(times, 1, time.0);
+    Frame((later - 1) as u16)
 }
 
 // At how many frames from 1 on the lane's bit differs from the frame before.

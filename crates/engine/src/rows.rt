@@ -12,7 +12,8 @@ use method::Kind;
 const ALL: u64 = 18446744073709551615;
 
 // How a kind works on words: the lanes in which exactly one entry is 1, or else those in which some entry is, each entry
-// turned first; then the result flipped. To turn or flip is all lanes or none, so that eight kinds need two ways.
+// turned first; then the result flipped. To turn or flip is all lanes or none, so that eight kinds need two ways. The kind
+// itself is there for the contracts.
 pub(crate) struct Rule {
     kind: Kind,
     exact: bool,
@@ -50,7 +51,7 @@ fn is_exact(kind: Kind) -> bool
     }
 }
 
-// AND is 1 where no entry, turned, is 1.
+// AND and NAND ask whether some entry, turned, is 1: whether some entry is 0.
 fn turn_of(kind: Kind) -> u64
     ensures { λ r. ⌜ r ≡ mask (turned kind) ⌝ }
 {
@@ -66,7 +67,7 @@ fn turn_of(kind: Kind) -> u64
     }
 }
 
-// The complements, and AND, which is one of its turned entries.
+// NOT, NOR and XNOR are complements; so is AND, of "some entry, turned, is 1".
 fn flip_of(kind: Kind) -> u64
     ensures { λ r. ⌜ r ≡ mask (flipped kind) ⌝ }
 {

@@ -3,12 +3,13 @@
 -- Assumes nothing.
 use Prim.Native.Nat.{ℕ, suc, _≤_, _<_, _+_}
 use mathlib.Core.Path.{_≡_, refl, sym, _∙_}
-use mathlib.Core.List.{List, [], _∷_, _++_}
+use mathlib.Core.List.{List, [], _∷_, _++_, append-assoc}
 use native.Mathlib.Omega.{arith}
 use native.Mathlib.Nat.{add-zero, add-suc}
 use native.Mathlib.Numerals.{add-one}
 use lib.ListN.{length, getD, take, drop, set, length-set, length-append, drop-of-length-le}
-use lib.Seq.{sets, sets-eq, set-out, drop-cons, take-at, length-take-le}
+use lib.Seq.{sets, sets-eq, set-out, drop-cons, take-at, length-take-le, drop-at}
+use borrow.Rule.Slice.PartMut.{putMid}
 
 -- past the end of the area nothing is stored
 pub sets-out : (area : List ℕ) (i : ℕ) (row : List ℕ) → length area ≤ i → sets area i row ≡ area
@@ -46,3 +47,27 @@ pub take-stored : (area row : List ℕ) (n : ℕ) → n + length row ≤ length 
 take-stored area row n h =
     rw (sets-eq row area n h)
     (take-at (take n area ++ row) (drop (n + length row) area) (n + length row) (length-append (take n area) row ∙ rw (length-take-le n area (omega arith))))
+
+-- ---- a list stored at `first`: the part that it fills, read back, and put back changed
+
+module _ (v xs : List ℕ) (first n : ℕ) (h : first + n ≤ length v) (l : length xs ≡ n) where
+  split : sets v first xs ≡ take first v ++ (xs ++ drop (first + n) v)
+  split = sets-eq xs v first (omega arith) ∙ rw (l, append-assoc)
+
+  low : length (take first v) ≡ first
+  low = length-take-le first v (omega arith)
+
+  stored-drop : drop first (sets v first xs) ≡ xs ++ drop (first + n) v
+  stored-drop = rw (split, drop-at (take first v) (xs ++ drop (first + n) v) first low)
+
+  pub stored-part : take n (drop first (sets v first xs)) ≡ xs
+  stored-part = rw (stored-drop, take-at xs (drop (first + n) v) n l)
+
+  stored-take : take first (sets v first xs) ≡ take first v
+  stored-take = rw (split, take-at (take first v) (xs ++ drop (first + n) v) first low)
+
+  stored-past : drop n (drop first (sets v first xs)) ≡ drop (first + n) v
+  stored-past = rw (stored-drop, drop-at xs (drop (first + n) v) n l)
+
+pub put-part : (v xs ys : List ℕ) (first n : ℕ) → first + n ≤ length v → length xs ≡ n → length ys ≡ n → putMid first n (sets v first xs) ys ≡ sets v first ys
+put-part v xs ys first n h l k = rw (stored-take v xs first n h l, stored-past v xs first n h l, split v ys first n h k)

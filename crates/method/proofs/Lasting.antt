@@ -9,7 +9,7 @@ use lib.ListN.{length, getD, drop}
 use borrow.Author.Tests.{le-leb, lt-leb}
 use Rattle.lists.specs.Front.{leading}
 use Rattle.lists.proofs.Choices.{order}
-use Rattle.method.specs.Indices.{lastFrom, lastFrame, faninIndex, upTo}
+use Rattle.method.specs.Indices.{lastFrom, lastFrame, faninIndex, upTo, inertialIndices}
 use Rattle.method.proofs.Rising.{Rise, Starts, rise-lower}
 
 -- ---- how many times are at most e
@@ -105,3 +105,14 @@ index-last d [] t r = absurd r
 index-last d (s ∷ ss) zero r =
     sym (last-count (s ∷ ss) (0 - d) r ∙ upTo-low (0 - d) ss (rise-lower ss (omega arith) (r .1)))
 index-last d (s ∷ ss) (suc t) r = refl
+
+-- without an inertial delay no later frame counts
+none-counted : (p : ℕ) (ts : List ℕ) → Rise p ts → (k : ℕ) → getD (inertialIndices 0 ts) k 0 ≡ 0
+none-counted p [] r k = refl
+none-counted p (t ∷ ts) r zero = rw (let q : t + 0 ≡ t = omega arith in q) (upTo-low t ts (r .1))
+none-counted p (t ∷ ts) r (suc k) = none-counted t ts (r .1) k
+
+pub starts-counted : (ts : List ℕ) → Starts ts → (k : ℕ) → getD (inertialIndices 0 ts) k 0 ≡ 0
+starts-counted [] s k = absurd s
+starts-counted (t ∷ ts) s zero = rw (let q : t + 0 ≡ t = omega arith in q) (upTo-low t ts (s .1))
+starts-counted (t ∷ ts) s (suc k) = none-counted t ts (s .1) k

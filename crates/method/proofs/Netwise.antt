@@ -18,8 +18,11 @@ use Rattle.method.specs.Netwise.{faninTimesOf, rawOf, machineRaw, EveryN
 use Rattle.method.proofs.Taking.{takes-range}
 use Rattle.method.proofs.Nets.{nets-count, input-net, gate-net, any-net}
 use Rattle.method.proofs.Lasting.{last-within, index-last}
-use Rattle.method.proofs.Planned.{frames-are, times-start}
+use Rattle.method.proofs.Planned.{frames-are, times-start, inertial-length}
 use Rattle.method.proofs.Tracing.{value-each}
+use mathlib.Core.Logic.{inl, inr}
+use native.Mathlib.Omega.{arith}
+use Rattle.lists.proofs.Choices.{order}
 
 -- ---- the frames of gate j
 
@@ -145,3 +148,13 @@ module _ (c : Circuit) where
 
 pub net-by-net : NetByNet
 net-by-net c = (every-net c, every-gate c)
+
+-- an inertial index a frame
+pub indices-each : (c : Circuit) → NoFeedback c → (m : ℕ) → m < length (frames c) → length (framesAt c m .inertial) ≡ length (framesAt c m .times)
+indices-each c ok m h =
+    elim (order (c .inputs) m) [
+      | inl l ↦ (let q : m ≡ c .inputs + (m - c .inputs) = omega arith in
+          let k : m - c .inputs < length (c .gates) = omega (arith, every-net c .frames-count) in
+          rw q (ap length (every-gate c ok .gate-inertial (m - c .inputs) k) ∙ inertial-length (gateAt c (m - c .inputs) .inertial) (framesAt c (c .inputs + (m - c .inputs)) .times)))
+      | inr l ↦ rw (every-net c .input-inertial m l, every-net c .input-times m l)
+    ]

@@ -17,7 +17,7 @@ use Rattle.circuit.specs.declared.Reading.{Reading}
 use Rattle.circuit.specs.declared.Reading.the-variants as R
 use Rattle.circuit.specs.Questions as reader
 use Rattle.circuit.proofs.Gated.{questions-numbered}
-use Rattle.circuit.proofs.Parts.{gates-length}
+use Rattle.circuit.proofs.Parts.{gates-length, inputs-are, gates-are, few}
 use Rattle.planner.specs.declared.Totals.{Totals}
 use Rattle.planner.specs.declared.Progress.{Progress}
 use Rattle.planner.specs.declared.Progress.the-variants as P
@@ -31,7 +31,7 @@ use Rattle.planner.specs.Steps.{framesOf, Given, Reached, Filled, Room}
 use Rattle.planner.proofs.Laying.{laid-kept}
 use Rattle.planner.proofs.Prefix.{frames-all}
 use Rattle.planner.proofs.Fitting.{fits-total}
-use Rattle.planner.proofs.Accepted.{inputs-are, gates-are, few, nets-count, nets-sized}
+use Rattle.planner.proofs.Accepted.{nets-count, nets-sized}
 use Rattle.planner.proofs.Stepping.{never, Alike}
 
 -- ---- all gates

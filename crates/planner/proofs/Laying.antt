@@ -6,8 +6,8 @@ use mathlib.Core.List.{List, [], _∷_, _++_, flatMap, flatten, append-assoc}
 use native.Mathlib.Omega.{arith}
 use native.Mathlib.Nat.{add-zero, zero-add}
 use native.Mathlib.Numerals.{add-one}
-use lib.ListN.{length, getD, take, drop, set, replicate, length-append}
-use lib.Seq.{sets}
+use lib.ListN.{length, getD, take, drop, set, replicate, length-append, length-drop}
+use lib.Seq.{sets, take-suc, take-take, getD-take, length-take-le}
 use Rattle.lists.specs.Tables.{tabulateFrom}
 use Rattle.lists.specs.Areas.{padded}
 use Rattle.lists.proofs.Tabled.{from-length, tabulate-snoc}
@@ -16,7 +16,7 @@ use Rattle.lists.proofs.Flat.{flat-snoc, flat-split, flat-even, seam-part, seam
 use Rattle.lists.proofs.Padding.{pad-length, pad-least, pad-beyond, pad-more}
 use Rattle.method.specs.Frames.{Frames, inputFrames, noFrames}
 use Rattle.planner.specs.Areas.{Areas, areas}
-use Rattle.planner.specs.Layout.{allTimes, allInertial, allFanins, pairs, laid, partOf}
+use Rattle.planner.specs.Layout.{allTimes, allInertial, allFanins, pairs, laid, partOf, firstFrame, frameCount}
 use Rattle.planner.specs.Steps.{inputsOnly, Room, Inputs}
 
 pub pair-stored : (d : List ℕ) (net first count : ℕ) → set (set d (2 * net) first) (2 * net + 1) count ≡ sets d (2 * net) (first ∷ count ∷ [])
@@ -72,7 +72,7 @@ module _ (fs : List Frames) {a : Areas} (is : a ≡ laid fs a) (n : ℕ) (h : n 
   unfolding padded
   pair-count = rw (directory-is fs is) (pairs-count 0 fs (replicate (length (a .directory) - length (pairs 0 fs)) 0) n h)
 
-  -- its part of an area, and where its frames end
+  -- its part of an area with an entry a frame
   pub part-at : (pre x rest : List ℕ) {area : List ℕ} → area ≡ pre ++ (x ++ rest) → length pre ≡ length (allTimes (take n fs)) → length x ≡ length (getD fs n noFrames .times) → partOf (a .directory) area n ≡ x
   unfolding partOf
   part-at pre x rest {area} e p q = rw (pair-first, pair-count, ← p, ← q) (seam-part pre x rest e)
@@ -97,7 +97,7 @@ module _ (fs : List Frames) {a : Areas} (is : a ≡ laid fs a) (n : ℕ) (h : n 
   pub fanin-at : (i : ℕ) → i < length (flatten (getD fs n noFrames .rows)) → getD (a .fanins) (length (allFanins (take n fs)) + i) 0 ≡ getD (flatten (getD fs n noFrames .rows)) i 0
   fanin-at i l = seam-at (allFanins (take n fs)) (flatten (getD fs n noFrames .rows)) _ (behind (λ (f : Frames). flatten (f .rows)) (length (a .fanins)) (fanins-are fs is)) i 0 l
 
--- the frames of net n end where those of the next begin
+-- what net n has lies within what all nets have
 pub frames-end : (fs : List Frames) (n : ℕ) → n < length fs → length (allTimes (take n fs)) + length (getD fs n noFrames .times) ≤ length (allTimes fs)
 frames-end fs n h = seam-room (allTimes (take n fs)) (getD fs n noFrames .times) (allTimes (drop (suc n) fs)) (flat-split (λ (f : Frames). f .times) fs n noFrames h)
 
@@ -248,3 +248,16 @@ inputs-on {d} {t} {n} i hd ht =
 pub inputs-laid : (n : ℕ) {d t i f : List ℕ} → Inputs d t n → i ≡ padded (length i) (allInertial (inputsOnly n)) → f ≡ padded (length f) (allFanins (inputsOnly n))
     → areas d t i f ≡ laid (inputsOnly n) (areas d t i f)
 inputs-laid n p a b = laid-is (inputsOnly n) (p .pairs-are) (p .times-are) a b
+
+pub part-length : (d i : List ℕ) (net : ℕ) → firstFrame d net + frameCount d net ≤ length i → length (partOf d i net) ≡ frameCount d net
+unfolding partOf
+part-length d i net h = length-take-le (frameCount d net) (drop (firstFrame d net) i) (rw (length-drop (firstFrame d net) i) (omega arith))
+
+pub times-next : (fs : List Frames) (n : ℕ) → n < length fs → allTimes (take (suc n) fs) ≡ allTimes (take n fs) ++ getD fs n noFrames .times
+times-next fs n h = ap (λ (l : List Frames). allTimes l) (take-suc fs n noFrames h) ∙ times-snoc (take n fs) (getD fs n noFrames)
+
+-- the frames of net m lie before those of a later net
+pub frames-below : (fs : List Frames) (m n : ℕ) → m < n → n ≤ length fs → length (allTimes (take m fs)) + length (getD fs m noFrames .times) ≤ length (allTimes (take n fs))
+frames-below fs m n h l =
+    let e = frames-end (take n fs) m (rw (length-take-le n fs l) h) in
+    rw (take-take m n fs (omega arith), getD-take n fs m noFrames h) at e

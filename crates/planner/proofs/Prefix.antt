@@ -5,7 +5,7 @@ use mathlib.Core.Path.{_≡_, refl, ap, _∙_}
 use mathlib.Core.List.{List, [], _∷_, _++_, map, flatMap, flatten}
 use native.Mathlib.Omega.{arith}
 use native.Mathlib.Nat.{mul-le-mul-left}
-use lib.ListN.{length, getD, length-append, length-map}
+use lib.ListN.{length, getD, length-append, length-map, take}
 use lib.Seq.{take-suc, take-length, length-take-le}
 use Rattle.lists.specs.Tables.{tabulateFrom}
 use Rattle.lists.proofs.Flat.{flat-map}
@@ -22,6 +22,7 @@ use Rattle.circuit.proofs.Bounded.{time-low, within-first}
 use Rattle.planner.specs.Layout.{allTimes, allInertial, allFanins}
 use Rattle.planner.specs.Steps.{firstGates, inputsOnly}
 use Rattle.planner.proofs.Laying.{inertial-snoc, total-more, fanins-more}
+use Rattle.method.proofs.Netwise.{net-by-net}
 
 -- ---- a gate more
 
@@ -108,3 +109,23 @@ module _ (c : Circuit) (j : ℕ) where
 pub sized : (c : Circuit) → ((j : ℕ) → j < length (c .gates) → length (gateAt c j .fanins) ≤ mostFanins) → (j : ℕ) → j ≤ length (c .gates) → Sized (frames (firstGates j c))
 sized c narrow zero h = rw (frames-none c) (sized-inputs (c .inputs) 0)
 sized c narrow (suc j) h = rw (frames-next c j (omega arith)) (sized-next c j (narrow j (omega arith)) (sized c narrow j (omega arith)))
+
+-- ---- the inputs among all nets
+
+-- an input has two frames
+pub input-frames : (c : Circuit) (n : ℕ) → n ≤ c .inputs → length (allTimes (take n (frames c))) ≡ 2 * n
+unfolding flatMap
+input-frames c zero h = refl
+input-frames c (suc n) h =
+    let some : n < length (frames c) = omega (arith, net-by-net c .0 .frames-count) in
+    rw (take-suc (frames c) n noFrames some)
+    (omega (arith, total-more (take n (frames c)) (framesAt c n), input-frames c n (omega arith), ap length (net-by-net c .0 .input-times n (omega arith))))
+
+-- inputs have no fan-in rows
+pub no-rows : (x : Circuit) (n : ℕ) → n ≤ x .inputs → length (allFanins (take n (frames x))) ≡ 0
+unfolding flatMap flatten
+no-rows x zero h = refl
+no-rows x (suc n) h =
+    let some : n < length (frames x) = omega (arith, net-by-net x .0 .frames-count) in
+    rw (take-suc (frames x) n noFrames some)
+    (omega (arith, fanins-more (take n (frames x)) (framesAt x n), no-rows x n (omega arith), ap (λ (rs : List (List ℕ)). length (flatten rs)) (net-by-net x .0 .input-rows n (omega arith))))

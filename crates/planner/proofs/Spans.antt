@@ -21,9 +21,9 @@ use Rattle.planner.specs.Steps.{Fed, spans}
 -- ---- one net
 
 -- read by its pair: the numbers from first up to end
-pub span-read : (d t : List ℕ) (n : ℕ) {first end : ℕ} → first ≡ getD d (2 * n) 0 → end ≡ first + getD d (2 * n + 1) 0 → take (end - first) (drop first t) ≡ partOf d t n
+pub part-read : (d t : List ℕ) (n : ℕ) {first end : ℕ} → first ≡ getD d (2 * n) 0 → end ≡ first + getD d (2 * n + 1) 0 → take (end - first) (drop first t) ≡ partOf d t n
 unfolding partOf
-span-read d t n {first} {end} p q =
+part-read d t n {first} {end} p q =
     let m : end - first ≡ getD d (2 * n + 1) 0 = omega arith in
     rw (m, p)
 

@@ -21,7 +21,7 @@ use Rattle.planner.specs.Steps.{framesOf, inputsOnly, Room, Given, Input
 use Rattle.planner.proofs.Laying.{inputs-count, inputs-frames, no-pairs, no-times, inputs-laid}
 use Rattle.planner.proofs.Prefix.{frames-none}
 use Rattle.planner.proofs.Fitting.{fits-inputs}
-use Rattle.planner.proofs.Accepted.{circuit-inputs, few}
+use Rattle.circuit.proofs.Parts.{circuit-inputs, few}
 
 -- ---- what the inputs are
 

@@ -18,7 +18,7 @@ use Rattle.method.proofs.Planned.{times-start}
 use Rattle.circuit.specs.declared.GateRecord.{GateRecord}
 use Rattle.circuit.specs.File.{inputsOf, gatesOf, faninAt, recordOf, circuitOf}
 use Rattle.circuit.specs.Limits.{mostTime}
-use Rattle.circuit.proofs.Parts.{gates-length, gateFrom}
+use Rattle.circuit.proofs.Parts.{gates-length, gateFrom, circuit-inputs, circuit-within, few, within, gate-read, gate-entries}
 use Rattle.planner.specs.declared.Totals.{Totals}
 use Rattle.planner.specs.declared.Progress.the-variants as P
 use Rattle.planner.specs.Limits.{mostNetFrames, mostTotalFrames}
@@ -31,7 +31,7 @@ use Rattle.planner.proofs.Inserting.{front}
 use Rattle.planner.proofs.Laying.{Spot, spot-at, low-area, times-snoc, total-more, fanins-more, Behind, laid-snoc}
 use Rattle.planner.proofs.Prefix.{faninTimes, nextFrames, next-times, next-inertial, next-rows, next-even, next-count, frames-early}
 use Rattle.planner.proofs.Fitting.{fits-total, fits-net, fits-more, fits-long, fits-many}
-use Rattle.planner.proofs.Accepted.{circuit-inputs, circuit-within, few, within, gate-read, gate-entries, nets-sized, nets-count, nets-next}
+use Rattle.planner.proofs.Accepted.{nets-sized, nets-count, nets-next}
 use Rattle.planner.proofs.Latest.{latest-append, latest-is}
 
 -- ---- what is known of gate j and its net, in three stages

@@ -1,10 +1,12 @@
 // 64 lanes in a word: the bit of a lane, and the inertial filter over the words of a net's frames.
 ghost use mathlib.Core.Path.{_≡_};
-ghost use Prim.Native.Nat.{_+_, _≤_, min};
+ghost use Prim.Native.Nat.{_+_, _^_, _<_, _≤_, min};
 ghost use lib.ListN.{length, getD, take, drop};
 ghost use Rattle.method.specs.Words as bits;
-ghost use Rattle.words.specs.Filtered.{differingLanes, keptWord, filteredWords};
+ghost use Rattle.words.specs.Filtered.{filteredWords};
+ghost use Rattle.words.specs.Steps.{differingLanes, keptWord};
 
+// Entry L has the bit of lane L.
 const LANES: [u64; 64] = [
     1,
     2,
@@ -79,7 +81,15 @@ pub fn bit_of(word: u64, lane: u8) -> bool
     if 63 < lane {
         return false;
     }
-    word / LANES[lane as usize] % 2 == 1
+    word / weight_of(lane) % 2 == 1
+}
+
+// The word that has the bit of this lane alone.
+fn weight_of(lane: u8) -> u64
+    requires { ⌜ lane < bits.lanes ⌝ }
+    ensures { λ r. ⌜ r ≡ 2 ^ lane ⌝ }
+{
+    LANES[lane as usize]
 }
 
 // Filters the words of a net's frames in place, each with its inertial index. The frames after k are still raw when k is

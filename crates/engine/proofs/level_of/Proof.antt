@@ -3,7 +3,7 @@
 use Prim.Native.Nat.{_+_, _*_}
 use mathlib.Core.Path.{refl, _∙_}
 use native.Mathlib.Omega.{arith}
-use Rattle.planner.proofs.Spans.{span-read}
+use Rattle.planner.proofs.Spans.{part-read}
 use Rattle.engine.proofs.Watching.{no-pair}
 use borrow.Author.Needs.{needs}
 use Rattle.engine.proofs.level_of.Statement.{statement}
@@ -76,7 +76,7 @@ returns-2 : tie.Need-returns-2
 returns-2 c =
     let s = c .before .before .before .before .before .before .before .before .before .before in
     let d = s .args .directory .now in
-    c .level .ensures ∙ rw (span-read d (s .args .times .now) (s .args .net .0) refl refl, span-read d (s .args .values .now) (s .args .net .0) refl refl)
+    c .level .ensures ∙ rw (part-read d (s .args .times .now) (s .args .net .0) refl refl, part-read d (s .args .values .now) (s .args .net .0) refl refl)
 
 pub level-of-spec : {M : Type 1} → statement M
 level-of-spec =

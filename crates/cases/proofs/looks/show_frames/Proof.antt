@@ -1,4 +1,4 @@
--- `show_frames` meets its contract.
+-- `show_frames` meets its contract. The place rises to the length.
 -- Assumes nothing.
 use Prim.Native.Nat.{_-_}
 use lib.ListN.{length}

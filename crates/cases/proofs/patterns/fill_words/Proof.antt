@@ -1,4 +1,4 @@
--- `fill_words` meets its contract.
+-- `fill_words` meets its contract. The place rises to 33, the length of both lists.
 -- Assumes nothing.
 use Prim.Native.Nat.{_-_}
 use borrow.Author.Needs.{needs}

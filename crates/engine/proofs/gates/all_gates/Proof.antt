@@ -9,12 +9,12 @@ use lib.ListN.{length, take}
 use Rattle.method.specs.Frames.{frames}
 use Rattle.circuit.specs.File.{gatesOf, circuitOf}
 use Rattle.planner.specs.Layout.{allFanins}
-use Rattle.planner.proofs.Accepted.{few}
 use Rattle.engine.specs.Steps.{Holds}
 use Rattle.engine.proofs.Gating.{rows-start, turn-ready, turn-rows, turn-holds}
 use borrow.Author.Needs.{needs}
 use Rattle.engine.proofs.gates.all_gates.Statement.{statement}
 use Rattle.engine.proofs.gates.all_gates.Tie as tie
+use Rattle.circuit.proofs.Parts.{few}
 
 abbrev Inv-loop : tie.InvT-loop
 Inv-loop file directory inertial fanins values₀ inputs gates at₀ j₀ values at j = (j ≤ gates) × (length values ≡ length values₀) × (at ≡ length (allFanins (take (inputs + j) (frames (circuitOf file))))) × ((before after : List ℕ) → Holds file before after inputs values₀ → Holds file before after (inputs + j) values)
@@ -34,11 +34,11 @@ add-t13 c = omega (arith, few (c .before .before .before .before .before .before
 gate-words-requires : tie.Need-gate-words-requires Inv-loop μ-loop
 gate-words-requires c κs = turn-ready (c .before .before .before .before .before .before .before .before .before .pre .0 .0) (c .before .before .before .before .before .before .before .before .before .pre .0 .1) {j = c .before .before .before .loop .j} (omega (arith, c .before .before .loop-test .taken, c .before .before .before .before .before .before .before .before .before .pre .0 .2)) (c .before .before .before .loop .inv .2) (c .before .gate-at .ensures) (length (c .before .before .before .loop .values)) (omega (arith, c .before .before .before .before .before .before .before .before .before .pre .1 .words, c .before .before .before .loop .inv .1))
 
-rows-of-requires : tie.Need-rows-of-requires Inv-loop μ-loop
-rows-of-requires c κs = omega (arith, turn-ready (c .before .before .before .before .before .before .before .before .before .before .before .before .pre .0 .0) (c .before .before .before .before .before .before .before .before .before .before .before .before .pre .0 .1) {j = c .before .before .before .before .before .before .loop .j} (omega (arith, c .before .before .before .before .before .loop-test .taken, c .before .before .before .before .before .before .before .before .before .before .before .before .pre .0 .2)) (c .before .before .before .before .before .before .loop .inv .2) (c .before .before .before .before .gate-at .ensures) (length (c .before .before .before .before .before .before .loop .values)) (omega (arith, c .before .before .before .before .before .before .before .before .before .before .before .before .pre .1 .words, c .before .before .before .before .before .before .loop .inv .1)) .pair)
+entries-of-requires : tie.Need-entries-of-requires Inv-loop μ-loop
+entries-of-requires c κs = omega (arith, turn-ready (c .before .before .before .before .before .before .before .before .before .before .before .before .pre .0 .0) (c .before .before .before .before .before .before .before .before .before .before .before .before .pre .0 .1) {j = c .before .before .before .before .before .before .loop .j} (omega (arith, c .before .before .before .before .before .loop-test .taken, c .before .before .before .before .before .before .before .before .before .before .before .before .pre .0 .2)) (c .before .before .before .before .before .before .loop .inv .2) (c .before .before .before .before .gate-at .ensures) (length (c .before .before .before .before .before .before .loop .values)) (omega (arith, c .before .before .before .before .before .before .before .before .before .before .before .before .pre .1 .words, c .before .before .before .before .before .before .loop .inv .1)) .pair)
 
 add-at : tie.Need-add-at Inv-loop μ-loop
-add-at c = omega (arith, c .rows-of .ensures, turn-ready (c .before .before .before .before .before .before .before .before .before .before .before .before .before .pre .0 .0) (c .before .before .before .before .before .before .before .before .before .before .before .before .before .pre .0 .1) {j = c .before .before .before .before .before .before .before .loop .j} (omega (arith, c .before .before .before .before .before .before .loop-test .taken, c .before .before .before .before .before .before .before .before .before .before .before .before .before .pre .0 .2)) (c .before .before .before .before .before .before .before .loop .inv .2) (c .before .before .before .before .before .gate-at .ensures) (length (c .before .before .before .before .before .before .before .loop .values)) (omega (arith, c .before .before .before .before .before .before .before .before .before .before .before .before .before .pre .1 .words, c .before .before .before .before .before .before .before .loop .inv .1)) .raw .within)
+add-at c = omega (arith, c .entries-of .ensures, turn-ready (c .before .before .before .before .before .before .before .before .before .before .before .before .before .pre .0 .0) (c .before .before .before .before .before .before .before .before .before .before .before .before .before .pre .0 .1) {j = c .before .before .before .before .before .before .before .loop .j} (omega (arith, c .before .before .before .before .before .before .loop-test .taken, c .before .before .before .before .before .before .before .before .before .before .before .before .before .pre .0 .2)) (c .before .before .before .before .before .before .before .loop .inv .2) (c .before .before .before .before .before .gate-at .ensures) (length (c .before .before .before .before .before .before .before .loop .values)) (omega (arith, c .before .before .before .before .before .before .before .before .before .before .before .before .before .pre .1 .words, c .before .before .before .before .before .before .before .loop .inv .1)) .raw .within)
 
 add-j : tie.Need-add-j Inv-loop μ-loop
 add-j c = search needs
@@ -53,7 +53,7 @@ loop-again c =
     let more : l .j < gatesOf (s .args .file .now) = omega (arith, c .before .before .before .before .before .before .loop-test .taken, s .pre .0 .2) in (
       omega arith,
       omega (arith, c .before .before .before .gate-words .kept .1 .1 .1 .1 .0, l .inv .1),
-      rw (c .rows-of .ensures) (turn-rows (s .pre .0 .0) (s .pre .0 .1) more (l .inv .2) (c .before .before .before .before .before .gate-at .ensures)),
+      rw (c .entries-of .ensures) (turn-rows (s .pre .0 .0) (s .pre .0 .1) more (l .inv .2) (c .before .before .before .before .before .gate-at .ensures)),
       (λ b a h. turn-holds (s .pre .0 .0) (s .pre .0 .1) more (l .inv .2) (c .before .before .before .before .before .gate-at .ensures) (omega (arith, s .pre .1 .words, l .inv .1)) (c .before .before .before .gate-words .ensures) (l .inv .3 b a h)),
     )
 
@@ -75,7 +75,7 @@ all-gates-spec =
     gate-at-requires
     add-t13
     gate-words-requires
-    rows-of-requires
+    entries-of-requires
     add-at
     add-j
     loop-less

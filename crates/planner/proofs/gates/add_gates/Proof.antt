@@ -5,10 +5,9 @@ use mathlib.Core.Path.{_≡_, refl}
 use native.Mathlib.Omega.{arith}
 use denote.Ref.{now}
 use Rattle.circuit.specs.File.{circuitOf}
-use Rattle.circuit.proofs.Parts.{gates-length}
+use Rattle.circuit.proofs.Parts.{gates-length, few}
 use Rattle.planner.specs.Areas.{areas}
 use Rattle.planner.specs.Steps.{Going}
-use Rattle.planner.proofs.Accepted.{few}
 use Rattle.planner.proofs.Fitting.{gave-up}
 use Rattle.planner.proofs.Stepping.{Alike, given-alike, reached-now, reached-many}
 use borrow.Author.Needs.{needs}

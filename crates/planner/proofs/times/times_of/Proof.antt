@@ -1,7 +1,7 @@
 -- `times_of` meets its contract: the pair of the net says where its times stand.
 -- Assumes nothing.
 use mathlib.Core.Path.{refl}
-use Rattle.planner.proofs.Spans.{span-read}
+use Rattle.planner.proofs.Spans.{part-read}
 use borrow.Author.Needs.{needs}
 use Rattle.planner.proofs.times.times_of.Statement.{statement}
 use Rattle.planner.proofs.times.times_of.Tie as tie
@@ -49,7 +49,7 @@ part-result-end : tie.Need-part-result-end
 part-result-end c = search needs
 
 returns : tie.Need-returns
-returns c = span-read _ _ _ refl refl
+returns c = part-read _ _ _ refl refl
 
 pub times-of-spec : {M : Type 1} → statement M
 times-of-spec =

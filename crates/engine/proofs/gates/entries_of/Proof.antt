@@ -1,12 +1,12 @@
--- `engine::gates::rows_of` meets its contract. The count is in the net's pair.
+-- `engine::gates::entries_of` meets its contract. The count is in the net's pair.
 -- Assumes nothing.
 use Prim.Native.Nat.{_+_, _*_, _≤_}
 use native.Mathlib.Omega.{arith}
 use native.Mathlib.Nat.{mul-le-mul-right}
 use lib.ListN.{getD}
 use borrow.Author.Needs.{needs}
-use Rattle.engine.proofs.gates.rows_of.Statement.{statement}
-use Rattle.engine.proofs.gates.rows_of.Tie as tie
+use Rattle.engine.proofs.gates.entries_of.Statement.{statement}
+use Rattle.engine.proofs.gates.entries_of.Tie as tie
 
 cast-result : tie.Need-cast-result
 cast-result c = search needs
@@ -39,8 +39,8 @@ mul-result-3 c =
 returns : tie.Need-returns
 returns c = search needs
 
-pub rows-of-spec : {M : Type 1} → statement M
-rows-of-spec =
+pub entries-of-spec : {M : Type 1} → statement M
+entries-of-spec =
     tie.close
     (tie.spec
     cast-result
