@@ -25,7 +25,7 @@ use Rattle.engine.specs.Run.{Outcome, filled, runOf}
 use Rattle.engine.specs.After.{Ran}
 use Rattle.engine.proofs.Asking.{Passed, passed}
 use Rattle.engine.proofs.Laid.{lastQuestion}
-use Rattle.engine.proofs.Running.{joined, left-none}
+use Rattle.engine.proofs.Answering.{joined, left-none}
 
 -- ---- no question was answered no
 

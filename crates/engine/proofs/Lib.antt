@@ -1,4 +1,4 @@
--- Laws of the engine: raw words, the places of nets in the areas, gate by gate, Run's questions, and what a run leaves.
+-- Laws of the engine: Level and Count, raw words, the places of nets in the areas, gate by gate, Run's questions, and what a run leaves.
 pub mod Turns
 pub mod Seeing
 pub mod Tally
@@ -11,6 +11,6 @@ pub mod After
 pub mod Asking
 pub mod Laid
 pub mod Valued
-pub mod Running
+pub mod Answering
 pub mod Gating
 pub mod Watching

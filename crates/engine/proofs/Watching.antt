@@ -36,7 +36,7 @@ use Rattle.engine.specs.After.{Ran, timesOf, valuesOf}
 use Rattle.engine.specs.Looking.{lookingQuestions, looked, lookOf}
 use Rattle.engine.specs.Steps.{Inside}
 use Rattle.engine.proofs.Seeing.{empty-no, lane-no}
-use Rattle.engine.proofs.Running.{all-numbered}
+use Rattle.engine.proofs.Answering.{all-numbered}
 use Rattle.engine.proofs.Accepted.{Held, held}
 use Rattle.engine.proofs.Parts.{nets-count, word-each, all-words}
 use Rattle.engine.proofs.After as left

@@ -2,31 +2,28 @@
 ghost use mathlib.Core.Path.{_≡_};
 ghost use lib.ListN.{length};
 ghost use Rattle.lists.specs.Ladder.{firstNo};
-ghost use Rattle.circuit.specs.File.{inputsOf, gatesOf};
-ghost use Rattle.planner.specs.Layout.{partOf};
 ghost use Rattle.planner.specs.Plan.{onPaper};
 ghost use Rattle.engine.specs.Areas.{areas};
-ghost use Rattle.engine.specs.Questions.{firstQuestions, ownQuestions};
+ghost use Rattle.engine.specs.Questions.{firstQuestions};
 ghost use Rattle.engine.specs.Run.{outcome, runOf};
 ghost use Rattle.engine.specs.Look.{levelOf, countOf, seenOnPaper, countedOnPaper};
 ghost use Rattle.engine.specs.Looking.{looked, lookOf};
-ghost use Rattle.engine.specs.Steps.{Asked, Inside};
 
 mod gates;
 mod looking;
 mod rows;
+mod running;
 
 use circuit::Reading;
-use gates::all_gates;
-use gates::input_words;
 use looking::changes;
 use looking::last_frame;
+use looking::level_of;
 use looking::look_fault;
 use method::Net;
 use method::Time;
 use planner::Planning;
-
-const VALUES_LENGTH: usize = 2048;
+use running::own_fault;
+use running::simulate;
 
 // Runs the circuit of the file with a before word and an after word for each input: questions 1 to 11, and 13. It answers
 // what Plan does.
@@ -102,67 +99,6 @@ pub fn questions(
     }
 }
 
-// Questions 10 and 11: the number of the first "no", or 0.
-fn own_fault(
-    inputs: u16,
-    directory: &[u16],
-    times: &[u16],
-    inertial: &[u16],
-    fanins: &[u16],
-    values: &[u64],
-    before: &[u64],
-    after: &[u64],
-) -> u8
-    ensures { λ r. ⌜ r ≡ firstNo (ownQuestions inputs (areas (now (directory .entry)) (now (times .entry)) (now (inertial .entry)) (now (fanins .entry)) (now (values .entry))) (length (now (before .entry))) (length (now (after .entry)))) ⌝ }
-{
-    if !planner::areas_suit(directory, times, inertial, fanins) {
-        return 10;
-    }
-    if values.len() != VALUES_LENGTH {
-        return 10;
-    }
-    if before.len() != inputs as usize {
-        return 11;
-    }
-    if after.len() != inputs as usize {
-        return 11;
-    }
-    0
-}
-
-// Plans and evaluates a circuit that has passed questions 1 to 11. What is behind the last frame is 0; so is everything if
-// there are too many frames.
-fn simulate(
-    file: &[u8],
-    inputs: u16,
-    gates: u16,
-    directory: &mut [u16],
-    times: &mut [u16],
-    inertial: &mut [u16],
-    fanins: &mut [u16],
-    values: &mut [u64],
-    before: &[u64],
-    after: &[u64],
-) -> Planning
-    requires { ⌜ Asked (now file) (areas (now directory) (now times) (now inertial) (now fanins) (now values)) (length (now before)) (length (now after)) × (inputs ≡ inputsOf (now file)) × (gates ≡ gatesOf (now file)) ⌝ }
-    ensures { λ r. ⌜ outcome (onPaper r) (areas (now (directory .exit)) (now (times .exit)) (now (inertial .exit)) (now (fanins .exit)) (now (values .exit))) ≡ runOf (now (file .entry)) (now (before .entry)) (now (after .entry)) (areas (now (directory .entry)) (now (times .entry)) (now (inertial .entry)) (now (fanins .entry)) (now (values .entry))) ⌝ }
-{
-    match planner::plan(file, directory, times, inertial, fanins) {
-        Planning::Refused(n) => {
-            lists::clear_words(values);
-            Planning::Refused(n)
-        }
-        Planning::Planned(t) => {
-            let frames = t.frames as usize;
-            input_words(values, before, after);
-            all_gates(file, directory, inertial, fanins, values, inputs, gates);
-            let end = values.len();
-            lists::clear_words(&mut values[frames..end]);
-            Planning::Planned(t)
-        }
-    }
-}
-
 // What Level answers: the level, or the number of the first "no".
 pub enum Seen {
     Level(bool),
@@ -227,25 +163,4 @@ pub fn look(
         Planning::Refused(n) => Seen::Refused(n),
         Planning::Planned(_) => level_of(directory, times, values, net, lane, time),
     }
-}
-
-// Level on the parts of a net, which are empty if it has no pair.
-fn level_of(
-    directory: &[u16],
-    times: &[u16],
-    values: &[u64],
-    net: Net,
-    lane: u8,
-    time: Time,
-) -> Seen
-    requires { ⌜ Inside (now directory) (now times) (now values) (net .0) ⌝ }
-    ensures { λ r. ⌜ seenOnPaper r ≡ levelOf (partOf (now (directory .entry)) (now (times .entry)) (net .0)) (partOf (now (directory .entry)) (now (values .entry)) (net .0)) lane (time .0) ⌝ }
-{
-    let pair = 2 * (net.0 as usize);
-    if directory.len() <= pair + 1 {
-        return Seen::Refused(14);
-    }
-    let first = directory[pair] as usize;
-    let end = first + directory[pair + 1] as usize;
-    level(&times[first..end], &values[first..end], lane, time)
 }

@@ -10,8 +10,13 @@ ghost use Rattle.method.specs.Indices.{lastFrame};
 ghost use Rattle.method.specs.Look as look;
 ghost use Rattle.method.specs.Words as bits;
 ghost use Rattle.planner.specs.Limits.{mostNetFrames};
-ghost use Rattle.engine.specs.Look.{lookQuestions};
+ghost use Rattle.planner.specs.Layout.{partOf};
+ghost use Rattle.engine.specs.Look.{levelOf, lookQuestions, seenOnPaper};
+ghost use Rattle.engine.specs.Steps.{Inside};
+use crate::Seen;
+use crate::level;
 use method::Frame;
+use method::Net;
 use method::Time;
 
 // A net has at most this many frames.
@@ -85,4 +90,25 @@ pub(crate) fn changes(values: &[u64], lane: u8) -> u16
         k += 1;
     }
     n
+}
+
+// Level on the parts of a net, which are empty if it has no pair.
+pub(crate) fn level_of(
+    directory: &[u16],
+    times: &[u16],
+    values: &[u64],
+    net: Net,
+    lane: u8,
+    time: Time,
+) -> Seen
+    requires { ⌜ Inside (now directory) (now times) (now values) (net .0) ⌝ }
+    ensures { λ r. ⌜ seenOnPaper r ≡ levelOf (partOf (now (directory .entry)) (now (times .entry)) (net .0)) (partOf (now (directory .entry)) (now (values .entry)) (net .0)) lane (time .0) ⌝ }
+{
+    let pair = 2 * (net.0 as usize);
+    if directory.len() <= pair + 1 {
+        return Seen::Refused(14);
+    }
+    let first = directory[pair] as usize;
+    let end = first + directory[pair + 1] as usize;
+    level(&times[first..end], &values[first..end], lane, time)
 }

@@ -1,7 +1,7 @@
 -- `run` meets its contract: a "no" up to 11 writes nothing, and `simulate` does the rest.
 -- Assumes nothing.
 use Rattle.engine.proofs.Asking.{read-no, own-no, all-asked-yes}
-use Rattle.engine.proofs.Running.{run-no}
+use Rattle.engine.proofs.Answering.{run-no}
 use borrow.Author.Needs.{needs}
 use Rattle.engine.proofs.run.Statement.{statement}
 use Rattle.engine.proofs.run.Tie as tie

@@ -9,18 +9,25 @@ use lib.ListN.{length, take}
 use Rattle.method.specs.Frames.{frames}
 use Rattle.circuit.specs.File.{gatesOf, circuitOf}
 use Rattle.planner.specs.Layout.{allFanins}
-use Rattle.engine.specs.Steps.{Holds}
+use Rattle.circuit.proofs.Parts.{few}
+use Rattle.engine.specs.Steps.{Holds, Ready}
 use Rattle.engine.proofs.Gating.{rows-start, turn-ready, turn-rows, turn-holds}
 use borrow.Author.Needs.{needs}
 use Rattle.engine.proofs.gates.all_gates.Statement.{statement}
 use Rattle.engine.proofs.gates.all_gates.Tie as tie
-use Rattle.circuit.proofs.Parts.{few}
 
 abbrev Inv-loop : tie.InvT-loop
 Inv-loop file directory inertial fanins values₀ inputs gates at₀ j₀ values at j = (j ≤ gates) × (length values ≡ length values₀) × (at ≡ length (allFanins (take (inputs + j) (frames (circuitOf file))))) × ((before after : List ℕ) → Holds file before after inputs values₀ → Holds file before after (inputs + j) values)
 
 abbrev μ-loop : tie.MeasureT-loop
 μ-loop file directory inertial fanins values₀ inputs gates at₀ j₀ values at j = gates - j
+
+-- the next gate can be evaluated
+ready : (c : tie.After-gate-words-arg Inv-loop μ-loop) → Ready (c .before .before .before .before .before .before .before .before .before .args .file .now) (c .before .before .before .before .before .before .before .before .before .args .directory .now) (c .before .before .before .before .before .before .before .before .before .args .inertial .now) (c .before .before .before .before .before .before .before .before .before .args .fanins .now) (length (c .before .before .before .loop .values)) (c .before .before .before .before .before .before .before .before .before .args .inputs + c .before .before .before .loop .j) (c .before .gate-at .result) (c .before .before .before .loop .at)
+ready c =
+    let s = c .before .before .before .before .before .before .before .before .before in
+    let l = c .before .before .before .loop in
+    turn-ready (s .pre .0 .0) (s .pre .0 .1) {j = l .j} (omega (arith, c .before .before .loop-test .taken, s .pre .0 .2)) (l .inv .2) (c .before .gate-at .ensures) (length (l .values)) (omega (arith, s .pre .1 .words, l .inv .1))
 
 loop-holds : tie.Need-loop-holds Inv-loop μ-loop
 loop-holds c = (omega arith, refl, rows-start (c .before .before .before .before .before .pre .0 .0) (c .before .before .before .before .before .pre .0 .1), (λ b a h. rw add-zero h))
@@ -32,13 +39,13 @@ add-t13 : tie.Need-add-t13 Inv-loop μ-loop
 add-t13 c = omega (arith, few (c .before .before .before .before .before .before .before .before .args .file .now) (c .before .before .before .before .before .before .before .before .pre .0 .0 .read), c .before .before .before .before .before .before .before .before .pre .0 .1, c .before .before .before .before .before .before .before .before .pre .0 .2, c .before .loop-test .taken)
 
 gate-words-requires : tie.Need-gate-words-requires Inv-loop μ-loop
-gate-words-requires c κs = turn-ready (c .before .before .before .before .before .before .before .before .before .pre .0 .0) (c .before .before .before .before .before .before .before .before .before .pre .0 .1) {j = c .before .before .before .loop .j} (omega (arith, c .before .before .loop-test .taken, c .before .before .before .before .before .before .before .before .before .pre .0 .2)) (c .before .before .before .loop .inv .2) (c .before .gate-at .ensures) (length (c .before .before .before .loop .values)) (omega (arith, c .before .before .before .before .before .before .before .before .before .pre .1 .words, c .before .before .before .loop .inv .1))
+gate-words-requires c κs = ready c
 
 entries-of-requires : tie.Need-entries-of-requires Inv-loop μ-loop
-entries-of-requires c κs = omega (arith, turn-ready (c .before .before .before .before .before .before .before .before .before .before .before .before .pre .0 .0) (c .before .before .before .before .before .before .before .before .before .before .before .before .pre .0 .1) {j = c .before .before .before .before .before .before .loop .j} (omega (arith, c .before .before .before .before .before .loop-test .taken, c .before .before .before .before .before .before .before .before .before .before .before .before .pre .0 .2)) (c .before .before .before .before .before .before .loop .inv .2) (c .before .before .before .before .gate-at .ensures) (length (c .before .before .before .before .before .before .loop .values)) (omega (arith, c .before .before .before .before .before .before .before .before .before .before .before .before .pre .1 .words, c .before .before .before .before .before .before .loop .inv .1)) .pair)
+entries-of-requires c κs = omega (arith, ready (c .before .before .before) .pair)
 
 add-at : tie.Need-add-at Inv-loop μ-loop
-add-at c = omega (arith, c .entries-of .ensures, turn-ready (c .before .before .before .before .before .before .before .before .before .before .before .before .before .pre .0 .0) (c .before .before .before .before .before .before .before .before .before .before .before .before .before .pre .0 .1) {j = c .before .before .before .before .before .before .before .loop .j} (omega (arith, c .before .before .before .before .before .before .loop-test .taken, c .before .before .before .before .before .before .before .before .before .before .before .before .before .pre .0 .2)) (c .before .before .before .before .before .before .before .loop .inv .2) (c .before .before .before .before .before .gate-at .ensures) (length (c .before .before .before .before .before .before .before .loop .values)) (omega (arith, c .before .before .before .before .before .before .before .before .before .before .before .before .before .pre .1 .words, c .before .before .before .before .before .before .before .loop .inv .1)) .raw .within)
+add-at c = omega (arith, c .entries-of .ensures, ready (c .before .before .before .before) .raw .within)
 
 add-j : tie.Need-add-j Inv-loop μ-loop
 add-j c = search needs

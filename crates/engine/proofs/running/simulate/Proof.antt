@@ -1,11 +1,11 @@
--- `simulate` meets its contract: past 1 to 11 Plan can refuse with 13 only; else it leaves what evaluating asks for.
+-- `running::simulate` meets its contract: past 1 to 11 Plan can refuse with 13 only; else it leaves what evaluating asks for.
 -- Assumes nothing.
 use native.Mathlib.Omega.{arith}
 use Rattle.engine.proofs.Laid.{words-room, words-fit, plan-frames, planned}
-use Rattle.engine.proofs.Running.{simulate-13, simulate-yes}
+use Rattle.engine.proofs.Answering.{simulate-13, simulate-yes}
 use borrow.Author.Needs.{needs}
-use Rattle.engine.proofs.simulate.Statement.{statement}
-use Rattle.engine.proofs.simulate.Tie as tie
+use Rattle.engine.proofs.running.simulate.Statement.{statement}
+use Rattle.engine.proofs.running.simulate.Tie as tie
 
 plan-requires : tie.Need-plan-requires
 plan-requires c κs = search needs

@@ -1,9 +1,9 @@
--- `own_fault` meets its contract: the planner asks four lengths, then the others are asked in turn.
+-- `running::own_fault` meets its contract: the planner asks four lengths, then the others are asked in turn.
 -- Assumes nothing.
 use Rattle.engine.proofs.Asking.{plan-no, values-no, before-no, after-no, none-11}
 use borrow.Author.Needs.{needs}
-use Rattle.engine.proofs.own_fault.Statement.{statement}
-use Rattle.engine.proofs.own_fault.Tie as tie
+use Rattle.engine.proofs.running.own_fault.Statement.{statement}
+use Rattle.engine.proofs.running.own_fault.Tie as tie
 
 areas-suit-requires : tie.Need-areas-suit-requires
 areas-suit-requires c κs = search needs

@@ -6,8 +6,8 @@ use native.Mathlib.Omega.{arith}
 use Rattle.planner.proofs.Spans.{part-read}
 use Rattle.engine.proofs.Watching.{no-pair}
 use borrow.Author.Needs.{needs}
-use Rattle.engine.proofs.level_of.Statement.{statement}
-use Rattle.engine.proofs.level_of.Tie as tie
+use Rattle.engine.proofs.looking.level_of.Statement.{statement}
+use Rattle.engine.proofs.looking.level_of.Tie as tie
 
 cast-pair : tie.Need-cast-pair
 cast-pair c = search needs
