@@ -303,7 +303,7 @@ pub(crate) fn looks_after_runs() {
     show_look(file, &before[0..1], &after[0..1], 1, 63, 0);
     show_look(file, &before[0..1], &after[0..1], 1, 63, 65535);
     show_look(file, &before[0..2], &after[0..1], 2, 0, 4);
-    show_look(&file[0..3], &before[0..1], &after[0..1], 2, 0, 4);
+    show_look(b"\x01\x00\x02", &before[0..1], &after[0..1], 2, 0, 4);
 }
 
 // Runs the file, and prints the net, the lane, the time, what is seen, and the sums.
