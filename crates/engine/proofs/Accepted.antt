@@ -8,12 +8,15 @@ use mathlib.Core.List.{List, []}
 use native.Mathlib.Omega.{arith}
 use lib.ListN.{length}
 use Rattle.lists.specs.Ladder.{firstNo, accepted}
+use Rattle.lists.specs.Outcome.{Outcome}
 use Rattle.lists.specs.Areas.{padded}
 use Rattle.lists.proofs.Ladders.{first-none, asked, accepted-none, unless-none}
+use Rattle.lists.proofs.Leaving.{left-none}
 use Rattle.method.specs.Circuit.{Circuit}
 use Rattle.method.specs.Frames.{frames}
 use Rattle.circuit.specs.File.{inputsOf, gatesOf, circuitOf}
 use Rattle.circuit.specs.Questions as reader
+use Rattle.planner.specs.declared.Totals.{Totals}
 use Rattle.planner.specs.Layout.{laid}
 use Rattle.planner.specs.Plan.{totalsOf}
 use Rattle.planner.specs.Questions as planner
@@ -21,11 +24,11 @@ use Rattle.planner.proofs.Calling.{plan-kept}
 use Rattle.engine.specs.Areas.{Areas}
 use Rattle.engine.specs.Values.{allValues}
 use Rattle.engine.specs.Questions.{firstQuestions, questions}
-use Rattle.engine.specs.Run.{Outcome, filled, runOf}
+use Rattle.engine.specs.Run.{filled, runOf}
 use Rattle.engine.specs.After.{Ran}
 use Rattle.engine.proofs.Asking.{Passed, passed}
 use Rattle.engine.proofs.Laid.{lastQuestion}
-use Rattle.engine.proofs.Answering.{joined, left-none}
+use Rattle.engine.proofs.Answering.{joined}
 
 -- ---- no question was answered no
 
@@ -64,11 +67,11 @@ filled-values c before after a = refl
 module _ (file before after : List ℕ) {a : Areas} (r : Ran file before after a) where
   none : firstNo (questions file (r .entry) (length before) (length after)) ≡ 0
   unfolding runOf
-  none = accepted-none _ (totalsOf (frames (circuitOf file))) (sym (ap (λ (o : Outcome). o .answer) (r .ran))) .0
+  none = accepted-none _ (totalsOf (frames (circuitOf file))) (sym (ap (λ (o : Outcome Totals Areas). o .answer) (r .ran))) .0
 
   left-filled : a ≡ filled (circuitOf file) before after (r .entry)
   unfolding runOf
-  left-filled = ap (λ (o : Outcome). o .left) (r .ran) ∙ rw none (left-none file before after (r .entry))
+  left-filled = ap (λ (o : Outcome Totals Areas). o .left) (r .ran) ∙ rw none (left-none _ _ (r .entry))
 
   pub held : Held file before after a
   held =

@@ -3,13 +3,14 @@
 use Prim.Native.Nat.{ℕ, suc, _+_, _≤_, _<_}
 use mathlib.Core.Path.{_≡_, refl, sym, ap, _∙_}
 use mathlib.Core.Logic.{_≢_}
-use mathlib.Core.Bool.{Bool, true, false, cond}
+use mathlib.Core.Bool.{true}
 use mathlib.Core.List.{List, map}
 use native.Mathlib.Omega.{arith}
-use lib.Dec.{eqb}
 use lib.ListN.{length}
 use Rattle.lists.specs.Ladder.{firstNo, accepted}
+use Rattle.lists.specs.Outcome.{leftBy}
 use Rattle.lists.proofs.Ladders.{unless-none}
+use Rattle.lists.proofs.Leaving.{left-part}
 use Rattle.method.specs.Circuit.{Circuit}
 use Rattle.method.specs.Times.{among, startAndRise}
 use Rattle.method.specs.Frames.{frames, framesAt}
@@ -27,12 +28,11 @@ use Rattle.circuit.proofs.Bounded.{time-small}
 use Rattle.planner.specs.Limits.{mostNetFrames}
 use Rattle.planner.specs.Areas as areas
 use Rattle.planner.specs.Layout.{laid, firstFrame, frameCount}
-use Rattle.planner.specs.Plan as planner
 use Rattle.planner.proofs.Fitting.{fits-total, fits-net}
 use Rattle.planner.proofs.Laying.{pair-first, pair-count, times-part, frames-end}
 use Rattle.engine.specs.Areas.{Areas, allCleared}
 use Rattle.engine.specs.Values.{netCount}
-use Rattle.engine.specs.Run.{filled, leftBy, runOf}
+use Rattle.engine.specs.Run.{filled, runOf}
 use Rattle.engine.specs.Look.{lookQuestions, levelOf, countOf}
 use Rattle.engine.specs.After.{Ran, After, Alike, AfterRun, timesOf, valuesOf, lastTime}
 use Rattle.engine.proofs.Seeing.{all-yes}
@@ -148,15 +148,8 @@ unfolding allCleared
 cleared-plan a = refl
 
 -- the plan areas are left as Plan leaves them
-plan-left : (n : ℕ) (c : Circuit) (before after : List ℕ) (a : Areas) → leftBy n c before after a .plan ≡ planner.leftBy n (frames c) (a .plan)
-unfolding leftBy planner.leftBy
-plan-left n c before after a = go (eqb n 0) (eqb n 13)
-  where
-    go : (none many : Bool) → cond none (filled c before after a) (cond many (allCleared a) a) .plan
-        ≡ cond none (laid (frames c) (a .plan)) (cond many (areas.allCleared (a .plan)) (a .plan))
-    go true many = filled-plan c before after a
-    go false true = cleared-plan a
-    go false false = refl
+plan-left : (n : ℕ) (c : Circuit) (before after : List ℕ) (a : Areas) → leftBy n (filled c before after a) (allCleared a) a .plan ≡ leftBy n (laid (frames c) (a .plan)) (areas.allCleared (a .plan)) (a .plan)
+plan-left n c before after a = left-part _ _ a (λ (x : Areas). x .plan) n ∙ rw (filled-plan c before after a, cleared-plan a)
 
 -- and of the words the questions take the lengths
 words-alike : (file before after before′ after′ : List ℕ) (a : Areas) → length before ≡ length before′ → length after ≡ length after′

@@ -1,15 +1,16 @@
 -- Run's ladder, and what a run leaves in the areas.
 -- Assumes nothing.
-use Prim.Native.Nat.{ℕ, _+_, _-_, _*_, _≤_}
+use Prim.Native.Nat.{ℕ, _+_, _-_, _*_}
 use mathlib.Core.Path.{_≡_, refl, sym, ap₂, _∙_}
 use mathlib.Core.Bool.{true, false}
 use mathlib.Core.List.{List, [], _++_}
 use native.Mathlib.Omega.{arith}
 use lib.ListN.{length, take, drop}
-use borrow.Author.Tests.{ne-eqb}
 use Rattle.lists.specs.Ladder.{firstNo, unless}
+use Rattle.lists.specs.Outcome.{outcome, leftBy}
 use Rattle.lists.specs.Areas.{cleared}
 use Rattle.lists.proofs.Ladders.{Numbered, numbered-append, numbered-more, first, first-here, first-most, firstNo-append, ask-yes, ask-no, all-asked, unless-none, unless-some}
+use Rattle.lists.proofs.Leaving.{left-none, left-13, left-other}
 use Rattle.method.specs.Frames.{frames}
 use Rattle.circuit.specs.File.{inputsOf, gatesOf, circuitOf}
 use Rattle.circuit.specs.Questions as reader
@@ -19,11 +20,10 @@ use Rattle.planner.specs.declared.Planning.{Planning}
 use Rattle.planner.specs.declared.Planning.the-variants as Q
 use Rattle.planner.specs.Questions.{fits}
 use Rattle.planner.specs.Plan.{totalsOf, onPaper, planOf}
-use Rattle.planner.specs.Plan as plan
 use Rattle.planner.specs.Areas as planner
 use Rattle.engine.specs.Areas.{Areas, areas, allCleared}
 use Rattle.engine.specs.Questions.{ownQuestions, firstQuestions, questions}
-use Rattle.engine.specs.Run.{filled, leftBy, outcome, runOf}
+use Rattle.engine.specs.Run.{filled, runOf}
 use Rattle.engine.specs.Steps.{Asked, Planned, Holds, inputWords}
 use Rattle.engine.proofs.Asking.{passed}
 use Rattle.engine.proofs.Laid.{lastQuestion, plan-13, plan-fits, plan-totals, plan-frames, words-fit, plan-laid}
@@ -49,26 +49,17 @@ module _ (file : List ℕ) (a : Areas) (before after : ℕ) where
   unfolding questions
   joined = firstNo-append 11 (firstQuestions file a before after) (lastQuestion file) first-numbered
 
--- what the first "no" leaves
 module _ (file before after : List ℕ) (a : Areas) where
-  pub left-none : leftBy 0 (circuitOf file) before after a ≡ filled (circuitOf file) before after a
-  unfolding leftBy
-  left-none = refl
-
-  left-13 : leftBy 13 (circuitOf file) before after a ≡ allCleared a
-  unfolding leftBy
-  left-13 = refl
-
-  left-other : (n : ℕ) → (n ≡ 0 → ⊥) → n ≤ 11 → leftBy n (circuitOf file) before after a ≡ a
-  unfolding leftBy
-  left-other n h k = rw (ne-eqb n 0 h, ne-eqb n 13 (λ e. omega arith))
+  -- what the first "no" leaves
+  abbrev left : ℕ → Areas
+  left n = leftBy n (filled (circuitOf file) before after a) (allCleared a) a
 
   ran : {n : ℕ} → firstNo (questions file a (length before) (length after)) ≡ n
-      → runOf file before after a ≡ outcome (unless n (totalsOf (frames (circuitOf file)))) (leftBy n (circuitOf file) before after a)
+      → runOf file before after a ≡ outcome (unless n (totalsOf (frames (circuitOf file)))) (left n)
   unfolding runOf
   ran e = rw e
 
-  refusal : {n : ℕ} → firstNo (questions file a (length before) (length after)) ≡ n → (n ≡ 0 → ⊥) → {b : Areas} → b ≡ leftBy n (circuitOf file) before after a
+  refusal : {n : ℕ} → firstNo (questions file a (length before) (length after)) ≡ n → (n ≡ 0 → ⊥) → {b : Areas} → b ≡ left n
       → outcome (onPaper (Q.Refused n)) b ≡ runOf file before after a
   unfolding onPaper
   refusal {n} e h l = sym (ran e ∙ rw (unless-some n (totalsOf (frames (circuitOf file))) h, ← l))
@@ -77,7 +68,7 @@ module _ (file before after : List ℕ) (a : Areas) where
   pub run-no : {n : ℕ} → n ≡ firstNo (firstQuestions file a (length before) (length after)) → (n ≡ 0 → ⊥) → outcome (onPaper (Q.Refused n)) a ≡ runOf file before after a
   run-no {n} e h =
       let most = first-most 11 (firstQuestions file a (length before) (length after)) (first-numbered file a (length before) (length after)) in
-      refusal (joined file a (length before) (length after) ∙ rw (← e) (first-here n _ h)) h (sym (left-other n h (omega (arith, most, e))))
+      refusal (joined file a (length before) (length after) ∙ rw (← e) (first-here n _ h)) h (sym (left-other _ _ a n h (λ z. omega (arith, most, e))))
 
   -- 13
   module _ (h : Asked file a (length before) (length after)) where
@@ -85,18 +76,18 @@ module _ (file before after : List ℕ) (a : Areas) where
     at-last = joined file a (length before) (length after) ∙ rw (h .none)
 
     run-13 : fits (frames (circuitOf file)) ≡ false → outcome (onPaper (Q.Refused 13)) (allCleared a) ≡ runOf file before after a
-    run-13 n = refusal (at-last ∙ ask-no (fits (frames (circuitOf file))) 13 [] n) (λ z. omega arith) (sym left-13)
+    run-13 n = refusal (at-last ∙ ask-no (fits (frames (circuitOf file))) 13 [] n) (λ z. omega arith) (sym (left-13 _ _ a))
 
     run-yes : fits (frames (circuitOf file)) ≡ true → outcome (onPaper (Q.Planned (totalsOf (frames (circuitOf file))))) (filled (circuitOf file) before after a) ≡ runOf file before after a
     unfolding onPaper
     run-yes y =
         let m : firstNo (questions file a (length before) (length after)) ≡ 0 = at-last ∙ ask-yes (fits (frames (circuitOf file))) 13 [] y ∙ all-asked in
-        sym (ran m ∙ rw (unless-none 0 (totalsOf (frames (circuitOf file))) refl, left-none))
+        sym (ran m ∙ rw (unless-none 0 (totalsOf (frames (circuitOf file))) refl, left-none (filled (circuitOf file) before after a) (allCleared a) a))
 
 -- ---- planned, and then evaluated or cleared
 
 module _ (file before after : List ℕ) {d t i f v : List ℕ} (h : Asked file (areas d t i f v) (length before) (length after)) {d′ t′ i′ f′ : List ℕ} {r : Planning}
-    (e : plan.outcome (onPaper r) (planner.areas d′ t′ i′ f′) ≡ planOf file (planner.areas d t i f)) where
+    (e : outcome (onPaper r) (planner.areas d′ t′ i′ f′) ≡ planOf file (planner.areas d t i f)) where
   pub simulate-13 : {n : ℕ} → r ≡ Q.Refused n → {v′ : List ℕ} → v′ ≡ cleared v → outcome (onPaper (Q.Refused n)) (areas d′ t′ i′ f′ v′) ≡ runOf file before after (areas d t i f v)
   unfolding allCleared
   simulate-13 {n} q {v′} z =

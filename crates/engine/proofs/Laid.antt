@@ -8,8 +8,10 @@ use mathlib.Core.List.{List, [], _∷_}
 use native.Mathlib.Omega.{arith}
 use lib.ListN.{length}
 use Rattle.lists.specs.Ladder.{_orElse_, Question, firstNo, Answer, accepted, refused, unless}
+use Rattle.lists.specs.Outcome.{Outcome, outcome, leftBy}
 use Rattle.lists.proofs.Choices.{either}
 use Rattle.lists.proofs.Ladders.{firstNo-append, asked, ask-yes, ask-no, all-asked, accepted-none, refused-some}
+use Rattle.lists.proofs.Leaving.{left-none, left-13}
 use Rattle.method.specs.Frames.{frames}
 use Rattle.circuit.specs.File.{circuitOf}
 use Rattle.circuit.specs.Questions as reader
@@ -20,7 +22,7 @@ use Rattle.planner.specs.declared.Planning.the-variants as Q
 use Rattle.planner.specs.Areas.{Areas, areas, allCleared}
 use Rattle.planner.specs.Layout.{allTimes, laid}
 use Rattle.planner.specs.Questions.{areasSuit, fits, ownQuestions, questions}
-use Rattle.planner.specs.Plan.{totalsOf, leftBy, Outcome, outcome, onPaper, planOf}
+use Rattle.planner.specs.Plan.{totalsOf, onPaper, planOf}
 use Rattle.planner.proofs.Calling as planner
 use Rattle.planner.proofs.Fitting.{fits-total}
 use Rattle.engine.specs.Areas as engine
@@ -44,21 +46,21 @@ module _ (file : List ℕ) {a : engine.Areas} {before after : ℕ} (h : Asked fi
   module _ {x : Answer Totals} {b : Areas} (e : outcome x b ≡ planOf file (a .plan)) where
     answer-is : x ≡ unless (firstNo (lastQuestion file)) (totalsOf (frames (circuitOf file)))
     unfolding planOf
-    answer-is = ap (λ (o : Outcome). o .answer) e ∙ rw at-last
+    answer-is = ap (λ (o : Outcome Totals Areas). o .answer) e ∙ rw at-last
 
-    left-is : b ≡ leftBy (firstNo (lastQuestion file)) (frames (circuitOf file)) (a .plan)
+    left-is : b ≡ leftBy (firstNo (lastQuestion file)) (laid (frames (circuitOf file)) (a .plan)) (allCleared (a .plan)) (a .plan)
     unfolding planOf
-    left-is = ap (λ (o : Outcome). o .left) e ∙ rw at-last
+    left-is = ap (λ (o : Outcome Totals Areas). o .left) e ∙ rw at-last
 
   module _ {d t i f : List ℕ} {r : Planning} (e : outcome (onPaper r) (areas d t i f) ≡ planOf file (a .plan)) where
     pub plan-13 : {n : ℕ} → r ≡ Q.Refused n → (n ≡ 13) × (fits (frames (circuitOf file)) ≡ false) × (areas d t i f ≡ allCleared (a .plan))
-    unfolding onPaper leftBy
+    unfolding onPaper
     plan-13 {n} q =
         let g : unless (firstNo (lastQuestion file)) (totalsOf (frames (circuitOf file))) ≡ refused n = sym (answer-is e) ∙ rw q in
         let s = refused-some (firstNo (lastQuestion file)) (totalsOf (frames (circuitOf file))) g in
         elim (either (fits (frames (circuitOf file)))) [
           | inl y ↦ absurd (let z : firstNo (lastQuestion file) ≡ 0 = ask-yes (fits (frames (circuitOf file))) 13 [] y ∙ all-asked in omega (arith, s .0, s .1))
-          | inr y ↦ (let z : firstNo (lastQuestion file) ≡ 13 = ask-no (fits (frames (circuitOf file))) 13 [] y in (sym (s .0) ∙ z, y, left-is e ∙ rw z))
+          | inr y ↦ (let z : firstNo (lastQuestion file) ≡ 13 = ask-no (fits (frames (circuitOf file))) 13 [] y in (sym (s .0) ∙ z, y, left-is e ∙ rw z (left-13 _ _ (a .plan))))
         ]
 
     module _ {totals : Totals} (q : r ≡ Q.Planned totals) where
@@ -83,8 +85,7 @@ module _ (file : List ℕ) {a : engine.Areas} {before after : ℕ} (h : Asked fi
       words-fit = omega (arith, plan-frames, fits-total (frames (circuitOf file)) plan-fits, passed file a before after (h .none) .values)
 
       pub plan-laid : areas d t i f ≡ laid (frames (circuitOf file)) (a .plan)
-      unfolding leftBy
-      plan-laid = left-is e ∙ rw (none .0)
+      plan-laid = left-is e ∙ rw (none .0) (left-none _ _ (a .plan))
 
       -- the areas are as long as they were
       pub planned : length d ≡ length (a .plan .directory) → length t ≡ length (a .plan .times) → length i ≡ length (a .plan .inertial) → length f ≡ length (a .plan .fanins) → Planned file d i f

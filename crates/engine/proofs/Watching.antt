@@ -11,6 +11,7 @@ use lib.Dec.{ltb}
 use lib.ListN.{length, List·getD-eq-default}
 use borrow.Author.Tests.{lt-ltb, le-ltb}
 use Rattle.lists.specs.Ladder.{_orElse_, Question, firstNo, Answer, accepted, refused, unless}
+use Rattle.lists.specs.Outcome.{Outcome, outcome}
 use Rattle.lists.proofs.Choices.{order}
 use Rattle.lists.proofs.Padding.{pad-least}
 use Rattle.lists.proofs.Ladders.{first, first-here, firstNo-append, ask-yes, ask-no, all-asked, accepted-none, refused-some, unless-none, unless-some}
@@ -30,10 +31,10 @@ use Rattle.engine.specs.declared.Seen.the-variants as S
 use Rattle.engine.specs.Areas.{Areas}
 use Rattle.engine.specs.Values.{netCount, allValues}
 use Rattle.engine.specs.Questions.{questions}
-use Rattle.engine.specs.Run.{Outcome, outcome, runOf}
+use Rattle.engine.specs.Run.{runOf}
 use Rattle.engine.specs.Look.{levelOf, seenOnPaper}
 use Rattle.engine.specs.After.{Ran, timesOf, valuesOf}
-use Rattle.engine.specs.Looking.{lookingQuestions, looked, lookOf}
+use Rattle.engine.specs.Looking.{lookingQuestions, lookOf}
 use Rattle.engine.specs.Steps.{Inside}
 use Rattle.engine.proofs.Seeing.{empty-no, lane-no}
 use Rattle.engine.proofs.Answering.{all-numbered}
@@ -116,20 +117,20 @@ module _ (file before after : List ℕ) (a : Areas) (n L t : ℕ) where
   joined = firstNo-append 13 (questions file a (length before) (length after)) rest (all-numbered file a (length before) (length after))
 
   seen : {m : ℕ} → firstNo (lookingQuestions file a (length before) (length after) n L) ≡ m → {x : Answer Bool} → x ≡ unless m (machine (circuitOf file) (laneOf L before after) n t)
-      → {b : Areas} → b ≡ runOf file before after a .left → looked x b ≡ lookOf file before after a n L t
+      → {b : Areas} → b ≡ runOf file before after a .left → outcome x b ≡ lookOf file before after a n L t
   unfolding lookOf
-  seen e p q = rw e (ap₂ looked p q)
+  seen e p q = rw e (ap₂ outcome p q)
 
   module _ (r : Planning) {b : Areas} (e : outcome (onPaper r) b ≡ runOf file before after a) where
     left-is : b ≡ runOf file before after a .left
-    left-is = ap (λ (o : Outcome). o .left) e
+    left-is = ap (λ (o : Outcome Totals Areas). o .left) e
 
     answer-is : onPaper r ≡ unless (firstNo (questions file a (length before) (length after))) (totalsOf (frames (circuitOf file)))
     unfolding runOf
-    answer-is = ap (λ (o : Outcome). o .answer) e
+    answer-is = ap (λ (o : Outcome Totals Areas). o .answer) e
 
     -- Run refuses
-    pub look-no : {m : ℕ} → r ≡ Q.Refused m → looked (seenOnPaper (S.Refused m)) b ≡ lookOf file before after a n L t
+    pub look-no : {m : ℕ} → r ≡ Q.Refused m → outcome (seenOnPaper (S.Refused m)) b ≡ lookOf file before after a n L t
     unfolding onPaper seenOnPaper
     look-no {m} q =
         let s = refused-some (firstNo (questions file a (length before) (length after))) (totalsOf (frames (circuitOf file))) (sym answer-is ∙ ap onPaper q) in
@@ -148,7 +149,7 @@ module _ (file before after : List ℕ) (a : Areas) (n L t : ℕ) where
           let z = accepted-none (firstNo (questions file a (length before) (length after))) (totalsOf (frames (circuitOf file))) (sym answer-is ∙ ap onPaper q) .0 in
           joined ∙ rw z
 
-      pub look-yes : {x : Answer Bool} → x ≡ levelOf (timesOf b n) (valuesOf b n) L t → looked x b ≡ lookOf file before after a n L t
+      pub look-yes : {x : Answer Bool} → x ≡ levelOf (timesOf b n) (valuesOf b n) L t → outcome x b ≡ lookOf file before after a n L t
       look-yes is =
           elim (order (netCount (circuitOf file)) n) [
             | inl l ↦ seen (at-rest ∙ ask-no (ltb n (netCount (circuitOf file))) 14 _ (le-ltb _ _ l)) (is ∙ none-there file before after ran n L t l ∙ sym (unless-some 14 _ (λ z. omega arith))) left-is

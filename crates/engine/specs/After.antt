@@ -7,6 +7,7 @@ use mathlib.Core.Bool.{true}
 use mathlib.Core.List.{List}
 use lib.ListN.{length}
 use Rattle.lists.specs.Ladder.{accepted}
+use Rattle.lists.specs.Outcome.{outcome}
 use Rattle.method.specs.Circuit.{Circuit}
 use Rattle.method.specs.Times.{among}
 use Rattle.method.specs.Machine.{machine}
@@ -18,7 +19,7 @@ use Rattle.planner.specs.declared.Totals.{Totals}
 use Rattle.planner.specs.Layout.{firstFrame, frameCount, partOf}
 use Rattle.engine.specs.Areas.{Areas}
 use Rattle.engine.specs.Values.{netCount}
-use Rattle.engine.specs.Run.{outcome, runOf}
+use Rattle.engine.specs.Run.{runOf}
 use Rattle.engine.specs.Look.{levelOf, countOf}
 
 -- `left` is what an accepted run of the file with these words leaves: it answered totals, and its areas held something

@@ -4,7 +4,8 @@ use mathlib.Core.Bool.{Bool}
 use mathlib.Core.List.{List, [], _∷_, _++_}
 use lib.ListN.{length}
 use lib.Dec.{ltb}
-use Rattle.lists.specs.Ladder.{Question, _orElse_, Answer, answer}
+use Rattle.lists.specs.Ladder.{Question, _orElse_, answer}
+use Rattle.lists.specs.Outcome.{Outcome, outcome}
 use Rattle.method.specs.Machine.{machine}
 use Rattle.method.specs.Words.{lanes}
 use Rattle.method.specs.Packed.{laneOf}
@@ -20,17 +21,9 @@ unfoldable pub lookingQuestions : List ℕ → Areas → ℕ → ℕ → ℕ →
 lookingQuestions file a before after net L =
     questions file a before after ++ ((ltb net (netCount (circuitOf file)) orElse 14) ∷ (ltb L lanes orElse 16) ∷ [])
 
--- an answer, with what stands in the areas then
-pub record Looked : Type 0 where
-  pub answer : Answer Bool
-  pub left : Areas
-
-abbrev pub looked : Answer Bool → Areas → Looked
-looked r a = record { answer = r; left = a }
-
 -- the level of the time-by-time machine, run for the lane's pattern pair by itself; the areas are as Run leaves them
-unfoldable pub lookOf : List ℕ → List ℕ → List ℕ → Areas → ℕ → ℕ → ℕ → Looked
+unfoldable pub lookOf : List ℕ → List ℕ → List ℕ → Areas → ℕ → ℕ → ℕ → Outcome Bool Areas
 lookOf file before after a net L t =
-    looked
+    outcome
     (answer (lookingQuestions file a (length before) (length after) net L) (machine (circuitOf file) (laneOf L before after) net t))
     (runOf file before after a .left)

@@ -1,10 +1,9 @@
 -- What Run answers, and what it leaves in the areas.
 use Prim.Native.Nat.{ℕ}
-use mathlib.Core.Bool.{cond}
 use mathlib.Core.List.{List}
 use lib.ListN.{length}
-use lib.Dec.{eqb}
-use Rattle.lists.specs.Ladder.{firstNo, Answer, unless}
+use Rattle.lists.specs.Ladder.{firstNo, unless}
+use Rattle.lists.specs.Outcome.{Outcome, outcome, leftBy}
 use Rattle.lists.specs.Areas.{padded}
 use Rattle.method.specs.Circuit.{Circuit}
 use Rattle.method.specs.Frames.{frames}
@@ -21,22 +20,9 @@ unfoldable pub filled : Circuit → List ℕ → List ℕ → Areas → Areas
 filled c before after a =
     record { plan = laid (frames c) (a .plan); values = padded (length (a .values)) (allValues c before after) }
 
--- what stands in the areas in the end, where the first "no" is n, or 0 for none: an acceptance fills them, 13 leaves
--- zeros, every other number writes nothing
-unfoldable pub leftBy : ℕ → Circuit → List ℕ → List ℕ → Areas → Areas
-leftBy n c before after a = cond (eqb n 0) (filled c before after a) (cond (eqb n 13) (allCleared a) a)
-
--- an answer, with what stands in the areas then
-pub record Outcome : Type 0 where
-  pub answer : Answer Totals
-  pub left : Areas
-
-abbrev pub outcome : Answer Totals → Areas → Outcome
-outcome r a = record { answer = r; left = a }
-
 -- Run of a file, with these before words and after words, and of areas with these contents; it answers what Plan does
-unfoldable pub runOf : List ℕ → List ℕ → List ℕ → Areas → Outcome
+unfoldable pub runOf : List ℕ → List ℕ → List ℕ → Areas → Outcome Totals Areas
 runOf file before after a =
     let n : ℕ = firstNo (questions file a (length before) (length after)) in
     let c : Circuit = circuitOf file in
-    outcome (unless n (totalsOf (frames c))) (leftBy n c before after a)
+    outcome (unless n (totalsOf (frames c))) (leftBy n (filled c before after a) (allCleared a) a)

@@ -2,12 +2,13 @@
 ghost use mathlib.Core.Path.{_≡_};
 ghost use lib.ListN.{length};
 ghost use Rattle.lists.specs.Ladder.{firstNo};
+ghost use Rattle.lists.specs.Outcome.{outcome};
 ghost use Rattle.planner.specs.Plan.{onPaper};
 ghost use Rattle.engine.specs.Areas.{areas};
 ghost use Rattle.engine.specs.Questions.{firstQuestions};
-ghost use Rattle.engine.specs.Run.{outcome, runOf};
+ghost use Rattle.engine.specs.Run.{runOf};
 ghost use Rattle.engine.specs.Look.{levelOf, countOf, seenOnPaper, countedOnPaper};
-ghost use Rattle.engine.specs.Looking.{looked, lookOf};
+ghost use Rattle.engine.specs.Looking.{lookOf};
 
 mod gates;
 mod looking;
@@ -148,7 +149,7 @@ pub fn look(
     lane: u8,
     time: Time,
 ) -> Seen
-    ensures { λ r. ⌜ looked (seenOnPaper r) (areas (now (directory .exit)) (now (times .exit)) (now (inertial .exit)) (now (fanins .exit)) (now (values .exit))) ≡ lookOf (now (file .entry)) (now (before .entry)) (now (after .entry)) (areas (now (directory .entry)) (now (times .entry)) (now (inertial .entry)) (now (fanins .entry)) (now (values .entry))) (net .0) lane (time .0) ⌝ }
+    ensures { λ r. ⌜ outcome (seenOnPaper r) (areas (now (directory .exit)) (now (times .exit)) (now (inertial .exit)) (now (fanins .exit)) (now (values .exit))) ≡ lookOf (now (file .entry)) (now (before .entry)) (now (after .entry)) (areas (now (directory .entry)) (now (times .entry)) (now (inertial .entry)) (now (fanins .entry)) (now (values .entry))) (net .0) lane (time .0) ⌝ }
 {
     match run(
         file,

@@ -2,11 +2,12 @@
 ghost use mathlib.Core.Path.{_≡_};
 ghost use lib.ListN.{length};
 ghost use Rattle.lists.specs.Ladder.{firstNo};
+ghost use Rattle.lists.specs.Outcome.{outcome};
 ghost use Rattle.circuit.specs.File.{inputsOf, gatesOf};
 ghost use Rattle.planner.specs.Plan.{onPaper};
 ghost use Rattle.engine.specs.Areas.{areas};
 ghost use Rattle.engine.specs.Questions.{ownQuestions};
-ghost use Rattle.engine.specs.Run.{outcome, runOf};
+ghost use Rattle.engine.specs.Run.{runOf};
 ghost use Rattle.engine.specs.Steps.{Asked};
 use crate::gates::all_gates;
 use crate::gates::input_words;

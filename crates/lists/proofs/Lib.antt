@@ -1,6 +1,7 @@
 -- Laws that belong to no one function; every crate above cites them.
 pub mod Choices
 pub mod Ladders
+pub mod Leaving
 pub mod Tabled
 pub mod Leading
 pub mod Zeros

@@ -7,10 +7,12 @@ use mathlib.Core.List.{List, []}
 use native.Mathlib.Omega.{arith}
 use lib.Dec.{eqb}
 use lib.ListN.{length}
-use borrow.Author.Tests.{eqb-true, ne-eqb, not-true, not-false}
+use borrow.Author.Tests.{eqb-true, not-true, not-false}
 use Rattle.lists.specs.Ladder.{firstNo, accepted, refused, unless}
+use Rattle.lists.specs.Outcome.{leftBy, outcome}
 use Rattle.lists.proofs.Choices.{and-left, and-right}
 use Rattle.lists.proofs.Ladders.{first, first-here, first-most, firstNo-append, ask-yes, ask-no, all-asked, accepted-none, refused-some, unless-none, unless-some}
+use Rattle.lists.proofs.Leaving.{left-none, left-13, left-other}
 use Rattle.method.specs.Frames.{Frames, frames}
 use Rattle.circuit.specs.File.{inputsOf, gatesOf, circuitOf}
 use Rattle.circuit.specs.declared.Reading.{Reading}
@@ -26,7 +28,7 @@ use Rattle.planner.specs.Limits.{mostTotalFrames, directoryLength, times
 use Rattle.planner.specs.Areas.{Areas, allCleared}
 use Rattle.planner.specs.Layout.{allTimes, laid}
 use Rattle.planner.specs.Questions.{areasSuit, fits, ownQuestions, questions}
-use Rattle.planner.specs.Plan.{totalsOf, leftBy, outcome, planOf, onPaper}
+use Rattle.planner.specs.Plan.{totalsOf, planOf, onPaper}
 use Rattle.planner.specs.Steps.{framesOf, Given, Reached, Filled, Room}
 use Rattle.planner.proofs.Laying.{laid-kept}
 use Rattle.planner.proofs.Prefix.{frames-all}
@@ -114,25 +116,16 @@ plan-kept file a e y fit is =
 
 -- ---- the ladder
 
--- what the first "no" leaves
-left-none : (fs : List Frames) (a : Areas) → leftBy 0 fs a ≡ laid fs a
-unfolding leftBy
-left-none fs a = refl
-
-left-13 : (fs : List Frames) (a : Areas) → leftBy 13 fs a ≡ allCleared a
-unfolding leftBy
-left-13 fs a = refl
-
-left-other : (n : ℕ) (fs : List Frames) (a : Areas) → 1 ≤ n → n ≤ 12 → leftBy n fs a ≡ a
-unfolding leftBy
-left-other n fs a h k = rw (ne-eqb n 0 (λ e. omega arith), ne-eqb n 13 (λ e. omega arith))
-
 module _ (file : List ℕ) (a : Areas) where
-  planned : {n : ℕ} → firstNo (questions file a) ≡ n → planOf file a ≡ outcome (unless n (totalsOf (frames (circuitOf file)))) (leftBy n (frames (circuitOf file)) a)
+  -- what the first "no" leaves
+  abbrev left : ℕ → Areas
+  left n = leftBy n (laid (frames (circuitOf file)) a) (allCleared a) a
+
+  planned : {n : ℕ} → firstNo (questions file a) ≡ n → planOf file a ≡ outcome (unless n (totalsOf (frames (circuitOf file)))) (left n)
   unfolding planOf
   planned e = rw e
 
-  refusal : {n : ℕ} → firstNo (questions file a) ≡ n → 1 ≤ n → {b : Areas} → b ≡ leftBy n (frames (circuitOf file)) a → outcome (onPaper (Q.Refused n)) b ≡ planOf file a
+  refusal : {n : ℕ} → firstNo (questions file a) ≡ n → 1 ≤ n → {b : Areas} → b ≡ left n → outcome (onPaper (Q.Refused n)) b ≡ planOf file a
   unfolding onPaper
   refusal {n} e h l = sym (planned e ∙ rw (unless-some n (totalsOf (frames (circuitOf file))) (λ z. omega arith), ← l))
 
@@ -149,7 +142,7 @@ module _ (file : List ℕ) (a : Areas) where
         let q = refused-some (firstNo (reader.questions file)) (reader.sizeOf file) g in
         let m : firstNo (questions file a) ≡ n = joined ∙ rw (q .0) (first-here n _ (λ z. omega (arith, q .1))) in
         let most : firstNo (reader.questions file) ≤ 9 = first-most 9 (reader.questions file) (questions-numbered file) in
-        refusal m (q .1) (sym (left-other n (frames (circuitOf file)) a (q .1) (omega (arith, q .0))))
+        refusal m (q .1) (sym (left-other _ _ a n (λ z. omega (arith, q .1)) (λ z. omega (arith, q .0))))
 
     module _ {inputs gates : ℕ} (e : r ≡ R.Accepted inputs gates) where
       answered : reader.readOf file ≡ accepted (record { inputs = inputs; gates = gates })
@@ -164,7 +157,7 @@ module _ (file : List ℕ) (a : Areas) where
 
       pub plan-10 : {ok : Bool} → ok ≡ areasSuit a → not ok ≡ true → outcome (onPaper (Q.Refused 10)) a ≡ planOf file a
       plan-10 {ok} is n =
-          refusal (rest ∙ ask-no (areasSuit a) 10 _ (sym is ∙ not-true ok n)) (omega arith) (sym (left-other 10 (frames (circuitOf file)) a (omega arith) (omega arith)))
+          refusal (rest ∙ ask-no (areasSuit a) 10 _ (sym is ∙ not-true ok n)) (omega arith) (sym (left-other _ _ a 10 (λ z. omega arith) (λ z. omega arith)))
 
       module _ {ok : Bool} (is : ok ≡ areasSuit a) (y : not ok ≡ false) where
         suits : areasSuit a ≡ true
@@ -181,10 +174,10 @@ module _ (file : List ℕ) (a : Areas) where
           pub plan-13 : q ≡ P.TooMany → outcome (onPaper (Q.Refused 13)) b ≡ planOf file a
           plan-13 z =
               refusal (rest ∙ ask-yes (areasSuit a) 10 _ suits ∙ ask-no (fits (frames (circuitOf file))) 13 [] (h .stopped z)) (omega arith)
-              (h .emptied z ∙ sym (left-13 (frames (circuitOf file)) a))
+              (h .emptied z ∙ sym (left-13 _ _ a))
 
           pub plan-yes : {t : Totals} → q ≡ P.Planned t → outcome (onPaper (Q.Planned t)) b ≡ planOf file a
           unfolding onPaper
           plan-yes {t} z =
               let m : firstNo (questions file a) ≡ 0 = rest ∙ ask-yes (areasSuit a) 10 _ suits ∙ ask-yes (fits (frames (circuitOf file))) 13 [] (h .fit t z) ∙ all-asked in
-              sym (planned m ∙ rw (unless-none 0 (totalsOf (frames (circuitOf file))) refl, left-none (frames (circuitOf file)) a, ← h .filled t z, ← h .totals t z))
+              sym (planned m ∙ rw (unless-none 0 (totalsOf (frames (circuitOf file))) refl, left-none (laid (frames (circuitOf file)) a) (allCleared a) a, ← h .filled t z, ← h .totals t z))

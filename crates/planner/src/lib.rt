@@ -2,11 +2,12 @@
 ghost use mathlib.Core.Path.{_≡_};
 ghost use Prim.Native.Nat.{_*_, _≤_};
 ghost use lib.ListN.{length};
+ghost use Rattle.lists.specs.Outcome.{outcome};
 ghost use Rattle.circuit.specs.File.{inputsOf, gatesOf};
 ghost use Rattle.circuit.specs.Limits.{mostInputs};
 ghost use Rattle.planner.specs.Areas.{areas, allCleared};
 ghost use Rattle.planner.specs.Questions.{areasSuit};
-ghost use Rattle.planner.specs.Plan.{outcome, onPaper, planOf, totalsOf};
+ghost use Rattle.planner.specs.Plan.{onPaper, planOf, totalsOf};
 ghost use Rattle.planner.specs.Steps.{Given, Inputs, Filled, inputsOnly};
 
 mod gates;
