@@ -2,39 +2,37 @@
 -- packed values.
 -- Assumes nothing.
 use Prim.Native.Nat.{ℕ}
-use mathlib.Core.Path.{_≡_, refl, sym, ap, _∙_}
+use mathlib.Core.Path.{_≡_, refl, sym, ap, ap₂, _∙_}
 use mathlib.Core.Bool.{true}
 use mathlib.Core.List.{List, []}
 use native.Mathlib.Omega.{arith}
 use lib.ListN.{length}
 use Rattle.lists.specs.Ladder.{firstNo, accepted}
-use Rattle.lists.specs.Outcome.{Outcome}
+use Rattle.lists.specs.Outcome.{outcome}
 use Rattle.lists.specs.Areas.{padded}
-use Rattle.lists.proofs.Ladders.{first-none, asked, accepted-none, unless-none}
-use Rattle.lists.proofs.Leaving.{left-none}
+use Rattle.lists.proofs.Ladders.{first-none, asked, unless-none}
+use Rattle.lists.proofs.Leaving.{left-none, accepted-left}
 use Rattle.method.specs.Circuit.{Circuit}
 use Rattle.method.specs.Frames.{frames}
 use Rattle.circuit.specs.File.{inputsOf, gatesOf, circuitOf}
 use Rattle.circuit.specs.Questions as reader
-use Rattle.planner.specs.declared.Totals.{Totals}
 use Rattle.planner.specs.Layout.{laid}
 use Rattle.planner.specs.Plan.{totalsOf}
 use Rattle.planner.specs.Questions as planner
 use Rattle.planner.proofs.Calling.{plan-kept}
-use Rattle.engine.specs.Areas.{Areas}
+use Rattle.engine.specs.Areas.{Areas, allCleared}
 use Rattle.engine.specs.Values.{allValues}
 use Rattle.engine.specs.Questions.{firstQuestions, questions}
 use Rattle.engine.specs.Run.{filled, runOf}
 use Rattle.engine.specs.After.{Ran}
 use Rattle.engine.proofs.Asking.{Passed, passed}
-use Rattle.engine.proofs.Laid.{lastQuestion}
 use Rattle.engine.proofs.Answering.{joined}
 
 -- ---- no question was answered no
 
 module _ (file : List ℕ) (a : Areas) (before after : ℕ) (e : firstNo (questions file a before after) ≡ 0) where
-  parts : (firstNo (firstQuestions file a before after) ≡ 0) × (firstNo (lastQuestion file) ≡ 0)
-  parts = first-none (firstNo (firstQuestions file a before after)) (firstNo (lastQuestion file)) (sym (joined file a before after) ∙ e)
+  pub parts : (firstNo (firstQuestions file a before after) ≡ 0) × (firstNo (planner.lastQuestion file) ≡ 0)
+  parts = first-none (firstNo (firstQuestions file a before after)) (firstNo (planner.lastQuestion file)) (sym (joined file a before after) ∙ e)
 
   yes-all : Passed file a before after
   yes-all = passed file a before after (parts .0)
@@ -64,14 +62,26 @@ filled-values : (c : Circuit) (before after : List ℕ) (a : Areas) → filled c
 unfolding filled
 filled-values c before after a = refl
 
-module _ (file before after : List ℕ) {a : Areas} (r : Ran file before after a) where
-  none : firstNo (questions file (r .entry) (length before) (length after)) ≡ 0
-  unfolding runOf
-  none = accepted-none _ (totalsOf (frames (circuitOf file))) (sym (ap (λ (o : Outcome Totals Areas). o .answer) (r .ran))) .0
+-- a run whose questions are all answered yes, in areas that held `entry`
+pub ran-filled : (file before after : List ℕ) (entry : Areas) {a : Areas} → firstNo (questions file entry (length before) (length after)) ≡ 0 → a ≡ filled (circuitOf file) before after entry → Ran file before after a
+unfolding runOf
+ran-filled file before after entry e is =
+    let totals = totalsOf (frames (circuitOf file)) in
+    let none-left = left-none (filled (circuitOf file) before after entry) (allCleared entry) entry in
+    record { totals = totals; entry = entry; ran = ap (outcome (accepted totals)) is ∙ rw e (sym (ap₂ outcome (unless-none 0 totals refl) none-left)) }
 
-  left-filled : a ≡ filled (circuitOf file) before after (r .entry)
+module _ (file before after : List ℕ) {a : Areas} (r : Ran file before after a) where
+  accepts : (firstNo (questions file (r .entry) (length before) (length after)) ≡ 0) × (totalsOf (frames (circuitOf file)) ≡ r .totals) × (a ≡ filled (circuitOf file) before after (r .entry))
   unfolding runOf
-  left-filled = ap (λ (o : Outcome Totals Areas). o .left) (r .ran) ∙ rw none (left-none _ _ (r .entry))
+  accepts =
+      accepted-left (firstNo (questions file (r .entry) (length before) (length after))) (totalsOf (frames (circuitOf file))) (filled (circuitOf file) before after (r .entry))
+      (allCleared (r .entry)) (r .entry) (r .ran)
+
+  pub none : firstNo (questions file (r .entry) (length before) (length after)) ≡ 0
+  none = accepts .0
+
+  pub left-filled : a ≡ filled (circuitOf file) before after (r .entry)
+  left-filled = accepts .2
 
   pub held : Held file before after a
   held =

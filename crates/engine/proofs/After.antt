@@ -1,9 +1,9 @@
--- What holds of the areas that an accepted run leaves, since they hold the plan and the packed values: `specs/After`, proved.
+-- What holds of the areas that an accepted Run leaves, since they hold the plan and the packed values: `specs/After`, proved.
 -- Assumes nothing.
 use Prim.Native.Nat.{ℕ, suc, _+_, _≤_, _<_}
 use mathlib.Core.Path.{_≡_, refl, sym, ap, _∙_}
 use mathlib.Core.Logic.{_≢_}
-use mathlib.Core.Bool.{true}
+use mathlib.Core.Bool.{Bool, true}
 use mathlib.Core.List.{List, map}
 use native.Mathlib.Omega.{arith}
 use lib.ListN.{length}
@@ -14,6 +14,7 @@ use Rattle.lists.proofs.Leaving.{left-part}
 use Rattle.method.specs.Circuit.{Circuit}
 use Rattle.method.specs.Times.{among, startAndRise}
 use Rattle.method.specs.Frames.{frames, framesAt}
+use Rattle.method.specs.Traces.{traceAt}
 use Rattle.method.specs.Machine.{machine}
 use Rattle.method.specs.Look.{level, changes}
 use Rattle.method.specs.Words.{lane}
@@ -32,9 +33,9 @@ use Rattle.planner.proofs.Fitting.{fits-total, fits-net}
 use Rattle.planner.proofs.Laying.{pair-first, pair-count, times-part, frames-end}
 use Rattle.engine.specs.Areas.{Areas, allCleared}
 use Rattle.engine.specs.Values.{netCount}
-use Rattle.engine.specs.Run.{filled, runOf}
+use Rattle.engine.specs.Run.{runLeft, runOf}
 use Rattle.engine.specs.Look.{lookQuestions, levelOf, countOf}
-use Rattle.engine.specs.After.{Ran, After, Alike, AfterRun, timesOf, valuesOf, lastTime}
+use Rattle.engine.specs.After.{Ran, NetParts, After, Alike, AfterRun, timesOf, valuesOf, levelIn, countIn, lastTime}
 use Rattle.engine.proofs.Seeing.{all-yes}
 use Rattle.engine.proofs.Accepted.{Held, held, filled-plan}
 use Rattle.engine.proofs.Parts.{nets-count, word-each, words-part}
@@ -81,27 +82,33 @@ module _ (file before after : List ℕ) {a : Areas} (b : Held file before after 
   inside : firstFrame (a .plan .directory) n + frameCount (a .plan .directory) n ≤ 2048
   inside = omega (arith, pair-first (frames c) (b .plan-is) n there, count-is, frames-end (frames c) n there, fits-total (frames c) (b .fit))
 
+  net-parts : NetParts a n
+  net-parts = record { some-frame = rw count-is frames-some; few-frames = rw count-is frames-few; inside = inside }
+
   module _ (L : ℕ) (l : L < 64) where
-    level-lane : (t : ℕ) → levelOf (timesOf a n) (valuesOf a n) L t ≡ accepted (laneLevel L c before after n t)
+    level-lane : (t : ℕ) → levelIn a n L t ≡ accepted (laneLevel L c before after n t)
     level-lane t =
         rw (times-are, values-are)
         (level-answered (framesAt c n .times) (packedValues c before after n) L (sym (word-each c before after n)) frames-some frames-few (agreement .times-rise c n) l t)
 
-    count-lane : countOf (timesOf a n) (valuesOf a n) L ≡ accepted (laneCount L c before after n)
+    count-lane : countIn a n L ≡ accepted (laneCount L c before after n)
     count-lane =
         rw (times-are, values-are)
         (count-answered (framesAt c n .times) (packedValues c before after n) L (sym (word-each c before after n)) frames-some frames-few (agreement .times-rise c n) l)
 
-    level-is : (t : ℕ) → levelOf (timesOf a n) (valuesOf a n) L t ≡ accepted (machine c (laneOf L before after) n t)
+    count-own : countIn a n L ≡ accepted (changes (traceAt c (laneOf L before after) n .values))
+    count-own = count-lane ∙ ap (λ (vs : List Bool). accepted (changes vs)) (in-lanes .own-values c before after L l n)
+
+    level-is : (t : ℕ) → levelIn a n L t ≡ accepted (machine c (laneOf L before after) n t)
     level-is t = level-lane t ∙ ap accepted (in-lanes .level-is-machine c before after L l n t)
 
-    changes-are : countOf (timesOf a n) (valuesOf a n) L ≡ accepted (changedTimes (machine c (laneOf L before after) n) lastTime)
+    changes-are : countIn a n L ≡ accepted (changedTimes (machine c (laneOf L before after) n) lastTime)
     changes-are =
         count-lane
         ∙ ap accepted (in-lanes .count-is-machine c before after L l n lastTime (λ t e. omega (arith, time-small c (circuit-within file (b .read)) n t h e)))
 
     -- levels that differ are levels of the lane's own run that differ
-    only-at : (t : ℕ) → levelOf (timesOf a n) (valuesOf a n) L (suc t) ≢ levelOf (timesOf a n) (valuesOf a n) L t → among (suc t) (timesOf a n) ≡ true
+    only-at : (t : ℕ) → levelIn a n L (suc t) ≢ levelIn a n L t → among (suc t) (timesOf a n) ≡ true
     only-at t d =
         let s = laneOf L before after in
         let same : levelAt c s n (suc t) ≡ levelAt c s n t → machine c s n (suc t) ≡ machine c s n t =
@@ -112,9 +119,11 @@ after-run : (file before after : List ℕ) (a : Areas) → Ran file before after
 after-run file before after a r =
     let b = held file before after r in
     record {
-      some-frame = λ n h. rw (count-is file before after b n h) (frames-some file before after b n h);
-      few-frames = λ n h. rw (count-is file before after b n h) (frames-few file before after b n h);
-      inside = inside file before after b;
+      parts = net-parts file before after b;
+      count-is = count-is file before after b;
+      times-are = times-are file before after b;
+      values-are = values-are file before after b;
+      count-is-own = λ n L h l. count-own file before after b n h L l;
       level-is-machine = λ n L t h l. level-is file before after b n h L l t;
       count-is-machine = λ n L h l. changes-are file before after b n h L l;
       changes-at-times = λ n L t h l d. only-at file before after b n h L l t d;
@@ -148,7 +157,7 @@ unfolding allCleared
 cleared-plan a = refl
 
 -- the plan areas are left as Plan leaves them
-plan-left : (n : ℕ) (c : Circuit) (before after : List ℕ) (a : Areas) → leftBy n (filled c before after a) (allCleared a) a .plan ≡ leftBy n (laid (frames c) (a .plan)) (areas.allCleared (a .plan)) (a .plan)
+pub plan-left : (n : ℕ) (c : Circuit) (before after : List ℕ) (a : Areas) → runLeft n c before after a .plan ≡ leftBy n (laid (frames c) (a .plan)) (areas.allCleared (a .plan)) (a .plan)
 plan-left n c before after a = left-part _ _ a (λ (x : Areas). x .plan) n ∙ rw (filled-plan c before after a, cleared-plan a)
 
 -- and of the words the questions take the lengths

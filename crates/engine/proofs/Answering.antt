@@ -1,13 +1,13 @@
 -- Run's ladder, and what a run leaves in the areas.
 -- Assumes nothing.
 use Prim.Native.Nat.{ℕ, _+_, _-_, _*_}
-use mathlib.Core.Path.{_≡_, refl, sym, ap₂, _∙_}
+use mathlib.Core.Path.{_≡_, refl, sym, ap, ap₂, _∙_}
 use mathlib.Core.Bool.{true, false}
 use mathlib.Core.List.{List, [], _++_}
 use native.Mathlib.Omega.{arith}
 use lib.ListN.{length, take, drop}
-use Rattle.lists.specs.Ladder.{firstNo, unless}
-use Rattle.lists.specs.Outcome.{outcome, leftBy}
+use Rattle.lists.specs.Ladder.{firstNo, Answer, unless}
+use Rattle.lists.specs.Outcome.{Outcome, outcome}
 use Rattle.lists.specs.Areas.{cleared}
 use Rattle.lists.proofs.Ladders.{Numbered, numbered-append, numbered-more, first, first-here, first-most, firstNo-append, ask-yes, ask-no, all-asked, unless-none, unless-some}
 use Rattle.lists.proofs.Leaving.{left-none, left-13, left-other}
@@ -18,21 +18,21 @@ use Rattle.circuit.proofs.Gated.{questions-numbered}
 use Rattle.planner.specs.declared.Totals.{Totals}
 use Rattle.planner.specs.declared.Planning.{Planning}
 use Rattle.planner.specs.declared.Planning.the-variants as Q
-use Rattle.planner.specs.Questions.{fits}
+use Rattle.planner.specs.Questions.{fits, lastQuestion}
 use Rattle.planner.specs.Plan.{totalsOf, onPaper, planOf}
 use Rattle.planner.specs.Areas as planner
 use Rattle.engine.specs.Areas.{Areas, areas, allCleared}
 use Rattle.engine.specs.Questions.{ownQuestions, firstQuestions, questions}
-use Rattle.engine.specs.Run.{filled, runOf}
-use Rattle.engine.specs.Steps.{Asked, Planned, Holds, inputWords}
+use Rattle.engine.specs.Run.{filled, runLeft, runOf}
+use Rattle.engine.specs.Steps.{Asked, Holds, inputWords}
 use Rattle.engine.proofs.Asking.{passed}
-use Rattle.engine.proofs.Laid.{lastQuestion, plan-13, plan-fits, plan-totals, plan-frames, words-fit, plan-laid}
+use Rattle.engine.proofs.Laid.{plan-13, plan-fits, plan-totals, plan-frames, words-fit, plan-laid}
 use Rattle.engine.proofs.Valued.{holds-inputs, values-are, rest-cleared}
 
 -- ---- the ladder
 
 module _ (file : List ℕ) (a : Areas) (before after : ℕ) where
-  first-numbered : Numbered 11 (firstQuestions file a before after)
+  pub first-numbered : Numbered 11 (firstQuestions file a before after)
   unfolding firstQuestions
   first-numbered =
       numbered-append 11 (reader.questions file) (ownQuestions (inputsOf file) a before after)
@@ -52,7 +52,14 @@ module _ (file : List ℕ) (a : Areas) (before after : ℕ) where
 module _ (file before after : List ℕ) (a : Areas) where
   -- what the first "no" leaves
   abbrev left : ℕ → Areas
-  left n = leftBy n (filled (circuitOf file) before after a) (allCleared a) a
+  left n = runLeft n (circuitOf file) before after a
+
+  -- Run's two parts
+  pub run-is : {x : Answer Totals} {b : Areas} → outcome x b ≡ runOf file before after a
+      → (x ≡ unless (firstNo (questions file a (length before) (length after))) (totalsOf (frames (circuitOf file))))
+      × (b ≡ left (firstNo (questions file a (length before) (length after))))
+  unfolding runOf
+  run-is e = (ap (λ (o : Outcome Totals Areas). o .answer) e, ap (λ (o : Outcome Totals Areas). o .left) e)
 
   ran : {n : ℕ} → firstNo (questions file a (length before) (length after)) ≡ n
       → runOf file before after a ≡ outcome (unless n (totalsOf (frames (circuitOf file)))) (left n)

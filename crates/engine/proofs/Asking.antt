@@ -111,3 +111,11 @@ passed file a before after h =
     let x = areas-pass a (s .0) in
     let y = words-pass (inputsOf file) before after (w .0) in
     record { reads = q .0; suits = x .0; values = x .1; before-each = y .0; after-each = y .1 }
+
+-- of the areas only the lengths are asked about: others that suit pass with the same file and lists
+pub passed-again : (file : List ℕ) (a a′ : Areas) (before after : ℕ) → firstNo (firstQuestions file a before after) ≡ 0 → areasSuit a′ ≡ true → firstNo (firstQuestions file a′ before after) ≡ 0
+passed-again file a a′ before after h y =
+    let q = first-none (firstNo (reader.questions file)) (firstNo (ownQuestions (inputsOf file) a before after)) (sym (joined file a before after) ∙ h) in
+    let s = asked (areasSuit a) 10 _ (λ z. omega arith) (q .1) in
+    let w = asked (wordsSuit (inputsOf file) before after) 11 [] (λ z. omega arith) (s .1) in
+    joined file a′ before after ∙ rw (q .0) (ask-yes (areasSuit a′) 10 _ y ∙ ask-yes (wordsSuit (inputsOf file) before after) 11 [] (w .0) ∙ all-asked)

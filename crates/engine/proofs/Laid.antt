@@ -4,10 +4,10 @@ use Prim.Native.Nat.{ℕ, _*_, _≤_}
 use mathlib.Core.Path.{_≡_, sym, ap, _∙_}
 use mathlib.Core.Logic.{inl, inr}
 use mathlib.Core.Bool.{true, false}
-use mathlib.Core.List.{List, [], _∷_}
+use mathlib.Core.List.{List, []}
 use native.Mathlib.Omega.{arith}
 use lib.ListN.{length}
-use Rattle.lists.specs.Ladder.{_orElse_, Question, firstNo, Answer, accepted, refused, unless}
+use Rattle.lists.specs.Ladder.{firstNo, Answer, accepted, refused, unless}
 use Rattle.lists.specs.Outcome.{Outcome, outcome, leftBy}
 use Rattle.lists.proofs.Choices.{either}
 use Rattle.lists.proofs.Ladders.{firstNo-append, asked, ask-yes, ask-no, all-asked, accepted-none, refused-some}
@@ -21,7 +21,7 @@ use Rattle.planner.specs.declared.Planning.{Planning}
 use Rattle.planner.specs.declared.Planning.the-variants as Q
 use Rattle.planner.specs.Areas.{Areas, areas, allCleared}
 use Rattle.planner.specs.Layout.{allTimes, laid}
-use Rattle.planner.specs.Questions.{areasSuit, fits, ownQuestions, questions}
+use Rattle.planner.specs.Questions.{areasSuit, fits, lastQuestion, ownQuestions, questions}
 use Rattle.planner.specs.Plan.{totalsOf, onPaper, planOf}
 use Rattle.planner.proofs.Calling as planner
 use Rattle.planner.proofs.Fitting.{fits-total}
@@ -29,10 +29,6 @@ use Rattle.engine.specs.Areas as engine
 use Rattle.engine.specs.Steps.{Asked, Planned}
 use Rattle.engine.proofs.Asking.{passed}
 use Rattle.circuit.proofs.Parts.{few}
-
--- question 13, the last
-abbrev pub lastQuestion : List ℕ → List Question
-lastQuestion file = (fits (frames (circuitOf file)) orElse 13) ∷ []
 
 module _ (file : List ℕ) {a : engine.Areas} {before after : ℕ} (h : Asked file a before after) where
   -- the inputs' words have room

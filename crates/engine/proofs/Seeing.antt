@@ -12,7 +12,7 @@ use borrow.Author.Tests.{eqb-true, eq-eqb, ne-eqb, le-ltb, lt-ltb, le-leb, lt-le
 use Rattle.lists.specs.Ladder.{_orElse_, firstNo}
 use Rattle.lists.specs.Front.{leading}
 use Rattle.lists.proofs.Choices.{and-left, and-right, between-low, between-yes, between-most-true}
-use Rattle.lists.proofs.Ladders.{asked, ask-yes, ask-no, all-asked, unless-none, unless-some}
+use Rattle.lists.proofs.Ladders.{Numbered, asked, ask-yes, ask-no, all-asked, unless-none, unless-some}
 use Rattle.method.specs.Times.{startAndRise}
 use Rattle.method.specs.Indices.{lastFrame}
 use Rattle.method.specs.Look.{changes}
@@ -28,6 +28,10 @@ use Rattle.engine.specs.Look.{partsSuit, lookQuestions, levelOf, countOf
 -- ---- the questions
 
 module _ (times values : List ℕ) (L : ℕ) where
+  pub look-numbered : Numbered 16 (lookQuestions times values L)
+  unfolding lookQuestions
+  look-numbered = (omega arith, omega arith, (omega arith, omega arith, (omega arith, omega arith, tt)))
+
   fault-14 : partsSuit times values ≡ false → 14 ≡ firstNo (lookQuestions times values L)
   unfolding lookQuestions
   fault-14 n = sym (ask-no (partsSuit times values) 14 _ n)

@@ -37,7 +37,7 @@ use Rattle.engine.specs.After.{Ran, timesOf, valuesOf}
 use Rattle.engine.specs.Looking.{lookingQuestions, lookOf}
 use Rattle.engine.specs.Steps.{Inside}
 use Rattle.engine.proofs.Seeing.{empty-no, lane-no}
-use Rattle.engine.proofs.Answering.{all-numbered}
+use Rattle.engine.proofs.Answering.{all-numbered, run-is}
 use Rattle.engine.proofs.Accepted.{Held, held}
 use Rattle.engine.proofs.Parts.{nets-count, word-each, all-words}
 use Rattle.engine.proofs.After as left
@@ -126,8 +126,7 @@ module _ (file before after : List ℕ) (a : Areas) (n L t : ℕ) where
     left-is = ap (λ (o : Outcome Totals Areas). o .left) e
 
     answer-is : onPaper r ≡ unless (firstNo (questions file a (length before) (length after))) (totalsOf (frames (circuitOf file)))
-    unfolding runOf
-    answer-is = ap (λ (o : Outcome Totals Areas). o .answer) e
+    answer-is = run-is file before after a e .0
 
     -- Run refuses
     pub look-no : {m : ℕ} → r ≡ Q.Refused m → outcome (seenOnPaper (S.Refused m)) b ≡ lookOf file before after a n L t

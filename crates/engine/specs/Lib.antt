@@ -1,5 +1,5 @@
 -- What Run, Level and Count answer, and what Run leaves in the areas: Areas, Values, Questions, Run, Look.
--- What holds of the areas that an accepted run leaves: After. The call that runs and looks: Looking.
+-- What holds of the areas that an accepted Run leaves: After. The call that runs and looks: Looking.
 -- Steps is no part of that: it holds what the engine's own functions promise each other.
 pub mod Areas
 pub mod Values

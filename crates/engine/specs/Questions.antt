@@ -5,8 +5,7 @@ use mathlib.Core.List.{List, [], _∷_, _++_}
 use lib.ListN.{length}
 use lib.Dec.{eqb}
 use Rattle.lists.specs.Ladder.{Question, _orElse_}
-use Rattle.method.specs.Frames.{frames}
-use Rattle.circuit.specs.File.{inputsOf, circuitOf}
+use Rattle.circuit.specs.File.{inputsOf}
 use Rattle.circuit.specs.Questions as reader
 use Rattle.planner.specs.Questions as planner
 use Rattle.engine.specs.Areas.{Areas}
@@ -33,4 +32,4 @@ firstQuestions file a before after = reader.questions file ++ ownQuestions (inpu
 -- and 13: Has every net at most 64 frames, and all nets together at most 2,048?
 unfoldable pub questions : List ℕ → Areas → ℕ → ℕ → List Question
 questions file a before after =
-    firstQuestions file a before after ++ ((planner.fits (frames (circuitOf file)) orElse 13) ∷ [])
+    firstQuestions file a before after ++ planner.lastQuestion file

@@ -20,9 +20,13 @@ unfoldable pub filled : Circuit → List ℕ → List ℕ → Areas → Areas
 filled c before after a =
     record { plan = laid (frames c) (a .plan); values = padded (length (a .values)) (allValues c before after) }
 
+-- what stands in the areas in the end, where the first "no" is n, or 0 for none
+abbrev pub runLeft : ℕ → Circuit → List ℕ → List ℕ → Areas → Areas
+runLeft n c before after a = leftBy n (filled c before after a) (allCleared a) a
+
 -- Run of a file, with these before words and after words, and of areas with these contents; it answers what Plan does
 unfoldable pub runOf : List ℕ → List ℕ → List ℕ → Areas → Outcome Totals Areas
 runOf file before after a =
     let n : ℕ = firstNo (questions file a (length before) (length after)) in
     let c : Circuit = circuitOf file in
-    outcome (unless n (totalsOf (frames c))) (leftBy n (filled c before after a) (allCleared a) a)
+    outcome (unless n (totalsOf (frames c))) (runLeft n c before after a)

@@ -40,17 +40,16 @@ module _ (c : Circuit) (before after : List ℕ) (L : ℕ) (h : L < lanes) (n : 
   count-own : (end : ℕ) → ((t : ℕ) → potential c n t ≡ true → t ≤ end) → laneCount L c before after n ≡ changedTimes (machine c (laneOf L before after) n) end
   count-own end k = rw own (agreement .count-is-machine c (laneOf L before after) n end k)
 
-module _ (c : Circuit) (before after before′ after′ : List ℕ) (L : ℕ) (h : L < lanes)
-    (b : AgreeIn L (c .inputs) before before′) (a : AgreeIn L (c .inputs) after after′) (n : ℕ) where
+module _ (c : Circuit) (before after before′ after′ : List ℕ) (L : ℕ) (b : AgreeIn L (c .inputs) before before′) (a : AgreeIn L (c .inputs) after after′) (n : ℕ) where
   same-pair : (i : ℕ) → i < c .inputs → laneOf L before after i ≡ laneOf L before′ after′ i
   same-pair i l = rw (b i l, a i l)
 
-  alike : map (lane L) (packedValues c before after n) ≡ map (lane L) (packedValues c before′ after′ n)
-  alike =
-      own c before after L h n
-      ∙ ap (λ (ns : List Trace). getD ns n noTrace .values)
-      (same-traces c (laneOf L before after) (laneOf L before′ after′) same-pair)
-      ∙ sym (own c before′ after′ L h n)
+  -- a lane's trace is made from that lane's bits alone
+  pub same-values : traceAt c (laneOf L before after) n .values ≡ traceAt c (laneOf L before′ after′) n .values
+  same-values = ap (λ (ns : List Trace). getD ns n noTrace .values) (same-traces c (laneOf L before after) (laneOf L before′ after′) same-pair)
+
+  alike : L < lanes → map (lane L) (packedValues c before after n) ≡ map (lane L) (packedValues c before′ after′ n)
+  alike h = own c before after L h n ∙ same-values ∙ sym (own c before′ after′ L h n)
 
 pub in-lanes : Lanes
 in-lanes =
@@ -60,6 +59,6 @@ in-lanes =
       own-values = own;
       level-is-machine = level-own;
       count-is-machine = count-own;
-      same-level = λ c before after before′ after′ L h b a n t. ap (λ (vs : List Bool). level (framesAt c n .times) vs t) (alike c before after before′ after′ L h b a n);
-      same-count = λ c before after before′ after′ L h b a n. ap changes (alike c before after before′ after′ L h b a n);
+      same-level = λ c before after before′ after′ L h b a n t. ap (λ (vs : List Bool). level (framesAt c n .times) vs t) (alike c before after before′ after′ L b a n h);
+      same-count = λ c before after before′ after′ L h b a n. ap changes (alike c before after before′ after′ L b a n h);
     }

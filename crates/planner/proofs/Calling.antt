@@ -11,8 +11,8 @@ use borrow.Author.Tests.{eqb-true, not-true, not-false}
 use Rattle.lists.specs.Ladder.{firstNo, accepted, refused, unless}
 use Rattle.lists.specs.Outcome.{leftBy, outcome}
 use Rattle.lists.proofs.Choices.{and-left, and-right}
-use Rattle.lists.proofs.Ladders.{first, first-here, first-most, firstNo-append, ask-yes, ask-no, all-asked, accepted-none, refused-some, unless-none, unless-some}
-use Rattle.lists.proofs.Leaving.{left-none, left-13, left-other}
+use Rattle.lists.proofs.Ladders.{Numbered, numbered-append, numbered-more, first, first-here, first-none, first-most, firstNo-append, asked, ask-yes, ask-no, all-asked, accepted-none, refused-some, unless-none, unless-some}
+use Rattle.lists.proofs.Leaving.{left-none, left-13, left-other, accepted-left}
 use Rattle.method.specs.Frames.{Frames, frames}
 use Rattle.circuit.specs.File.{inputsOf, gatesOf, circuitOf}
 use Rattle.circuit.specs.declared.Reading.{Reading}
@@ -27,7 +27,7 @@ use Rattle.planner.specs.declared.Planning.the-variants as Q
 use Rattle.planner.specs.Limits.{mostTotalFrames, directoryLength, timesLength, faninsLength}
 use Rattle.planner.specs.Areas.{Areas, allCleared}
 use Rattle.planner.specs.Layout.{allTimes, laid}
-use Rattle.planner.specs.Questions.{areasSuit, fits, ownQuestions, questions}
+use Rattle.planner.specs.Questions.{areasSuit, fits, lastQuestion, ownQuestions, questions}
 use Rattle.planner.specs.Plan.{totalsOf, planOf, onPaper}
 use Rattle.planner.specs.Steps.{framesOf, Given, Reached, Filled, Room}
 use Rattle.planner.proofs.Laying.{laid-kept}
@@ -73,7 +73,7 @@ module _ (file : List ℕ) {gates : ℕ} (all : gates ≡ gatesOf file) {a′ : 
 
 -- ---- question 10 gives room for every plan that fits
 
-suited : (a : Areas) → areasSuit a ≡ true → (length (a .directory) ≡ directoryLength) × (length (a .times) ≡ timesLength) × (length (a .inertial) ≡ timesLength) × (length (a .fanins) ≡ faninsLength)
+pub suited : (a : Areas) → areasSuit a ≡ true → (length (a .directory) ≡ directoryLength) × (length (a .times) ≡ timesLength) × (length (a .inertial) ≡ timesLength) × (length (a .fanins) ≡ faninsLength)
 unfolding areasSuit
 suited a e =
     let e2 = and-right (eqb (length (a .directory)) directoryLength) _ e in
@@ -129,9 +129,23 @@ module _ (file : List ℕ) (a : Areas) where
   unfolding onPaper
   refusal {n} e h l = sym (planned e ∙ rw (unless-some n (totalsOf (frames (circuitOf file))) (λ z. omega arith), ← l))
 
+  pub plan-numbered : Numbered 13 (questions file a)
+  unfolding questions
+  plan-numbered =
+      numbered-append 13 (reader.questions file) (ownQuestions file a) (numbered-more 9 13 (omega arith) (reader.questions file) (questions-numbered file))
+      (omega arith, omega arith, (omega arith, omega arith, tt))
+
   joined : firstNo (questions file a) ≡ first (firstNo (reader.questions file)) (firstNo (ownQuestions file a))
   unfolding questions
   joined = firstNo-append 9 (reader.questions file) (ownQuestions file a) (questions-numbered file)
+
+  -- what an acceptance says: the areas have the lengths of question 10, and are laid out
+  pub plan-accepted : {totals : Totals} {b : Areas} → outcome (accepted totals) b ≡ planOf file a → (areasSuit a ≡ true) × (b ≡ laid (frames (circuitOf file)) a)
+  unfolding planOf
+  plan-accepted e =
+      let p = accepted-left (firstNo (questions file a)) (totalsOf (frames (circuitOf file))) (laid (frames (circuitOf file)) a) (allCleared a) a e in
+      let q = first-none (firstNo (reader.questions file)) (firstNo (ownQuestions file a)) (sym joined ∙ p .0) in
+      (asked (areasSuit a) 10 (lastQuestion file) (λ z. omega arith) (q .1) .0, p .2)
 
   module _ {r : Reading} (f : reader.onPaper r ≡ reader.readOf file) where
     -- 1 to 9

@@ -25,9 +25,13 @@ unfoldable pub fits : List Frames → Bool
 fits fs =
     every (map (λ (f : Frames). leb (length (f .times)) mostNetFrames) fs) && leb (length (allTimes fs)) mostTotalFrames
 
+-- the last question of every call that plans
+abbrev pub lastQuestion : List ℕ → List Question
+lastQuestion file = (fits (frames (circuitOf file)) orElse 13) ∷ []
+
 -- Plan's own questions
 abbrev pub ownQuestions : List ℕ → Areas → List Question
-ownQuestions file a = (areasSuit a orElse 10) ∷ (fits (frames (circuitOf file)) orElse 13) ∷ []
+ownQuestions file a = (areasSuit a orElse 10) ∷ lastQuestion file
 
 unfoldable pub questions : List ℕ → Areas → List Question
 questions file a = reader.questions file ++ ownQuestions file a
