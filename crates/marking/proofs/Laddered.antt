@@ -1,0 +1,105 @@
+-- Mark's ladder beside Run's: where 12 is answered yes, they ask alike, and leave the areas alike.
+-- Assumes nothing.
+use Prim.Native.Nat.{ℕ}
+use mathlib.Core.Path.{_≡_, sym, ap, _∙_}
+use mathlib.Core.Bool.{Bool, true, false, not}
+use mathlib.Core.List.{List, _∷_}
+use native.Mathlib.Omega.{arith}
+use lib.ListN.{length}
+use borrow.Author.Tests.{not-true, not-false}
+use Rattle.lists.specs.Ladder.{_orElse_, firstNo, unless}
+use Rattle.lists.specs.Outcome.{outcome}
+use Rattle.lists.proofs.Ladders.{Numbered, numbered-append, numbered-more, first, first-here, first-none, first-most, firstNo-append, asked, ask-yes, ask-no, accepted-none, refused-some}
+use Rattle.lists.proofs.Leaving.{left-other}
+use Rattle.method.specs.Frames.{frames}
+use Rattle.circuit.specs.File.{circuitOf}
+use Rattle.planner.specs.declared.Totals.{Totals}
+use Rattle.planner.specs.declared.Planning.{Planning}
+use Rattle.planner.specs.declared.Planning.the-variants as Q
+use Rattle.planner.specs.Plan.{totalsOf, onPaper}
+use Rattle.planner.specs.Questions.{lastQuestion}
+use Rattle.engine.specs.Areas.{Areas}
+use Rattle.engine.specs.Questions.{firstQuestions, questions}
+use Rattle.engine.specs.Run.{runLeft, runOf}
+use Rattle.engine.proofs.Answering.{first-numbered, joined, run-is}
+use Rattle.marking.specs.Questions.{askedWith}
+use Rattle.marking.specs.Steps as steps
+
+module _ (file : List ℕ) (a : Areas) (before after : ℕ) (suit : Bool) where
+  pub ladder-numbered : Numbered 13 (askedWith file a before after suit)
+  unfolding askedWith
+  ladder-numbered =
+      numbered-append 13 (firstQuestions file a before after) ((suit orElse 12) ∷ lastQuestion file)
+      (numbered-more 11 13 (omega arith) (firstQuestions file a before after) (first-numbered file a before after)) (omega arith, omega arith, (omega arith, omega arith, tt))
+
+  parted : firstNo (askedWith file a before after suit) ≡ first (firstNo (firstQuestions file a before after)) (firstNo ((suit orElse 12) ∷ lastQuestion file))
+  unfolding askedWith
+  parted = firstNo-append 11 (firstQuestions file a before after) ((suit orElse 12) ∷ lastQuestion file) (first-numbered file a before after)
+
+  pub ladder-early : (firstNo (firstQuestions file a before after) ≡ 0 → ⊥) → firstNo (askedWith file a before after suit) ≡ firstNo (firstQuestions file a before after)
+  ladder-early h = parted ∙ first-here _ _ h
+
+  ladder-12 : firstNo (firstQuestions file a before after) ≡ 0 → suit ≡ false → firstNo (askedWith file a before after suit) ≡ 12
+  ladder-12 z n = parted ∙ rw z (ask-no suit 12 (lastQuestion file) n)
+
+  -- where 12 is answered yes, the first "no" is Run's
+  pub ladder-run : suit ≡ true → firstNo (askedWith file a before after suit) ≡ firstNo (questions file a before after)
+  ladder-run y = parted ∙ ap (first (firstNo (firstQuestions file a before after))) (ask-yes suit 12 (lastQuestion file) y) ∙ sym (joined file a before after)
+
+  pub ladder-none : firstNo (firstQuestions file a before after) ≡ 0 → suit ≡ true → firstNo (lastQuestion file) ≡ 0 → firstNo (askedWith file a before after suit) ≡ 0
+  ladder-none z y l = parted ∙ rw z (ask-yes suit 12 (lastQuestion file) y ∙ l)
+
+  -- no "no": 12 is answered yes, and so are Run's questions
+  pub ladder-yes : firstNo (askedWith file a before after suit) ≡ 0 → (suit ≡ true) × (firstNo (questions file a before after) ≡ 0)
+  ladder-yes e =
+      let p = first-none (firstNo (firstQuestions file a before after)) _ (sym parted ∙ e) in
+      let s = asked suit 12 (lastQuestion file) (λ z. omega arith) (p .1) in
+      (s .0, sym (ladder-run (s .0)) ∙ e)
+
+-- ---- what `run_asked` answers and leaves
+
+module _ (file before after : List ℕ) (a : Areas) (suit : Bool) where
+  abbrev first-no : ℕ
+  first-no = firstNo (firstQuestions file a (length before) (length after))
+
+  abbrev left : ℕ → Areas
+  left n = runLeft n (circuitOf file) before after a
+
+  answers : {n : ℕ} → firstNo (askedWith file a (length before) (length after) suit) ≡ n → steps.askedOf file before after a suit ≡ steps.asked n (left n)
+  unfolding steps.askedOf
+  answers e = rw e
+
+  -- 1 to 12 write nothing
+  unwritten : {n : ℕ} → firstNo (askedWith file a (length before) (length after) suit) ≡ n → (n ≡ 0 → ⊥) → (n ≡ 13 → ⊥) → steps.asked n a ≡ steps.askedOf file before after a suit
+  unwritten {n} e h k = sym (answers e ∙ ap (steps.asked n) (left-other _ _ a n h k))
+
+  pub early-no : {r : ℕ} → r ≡ first-no → (r ≡ 0 → ⊥) → steps.asked r a ≡ steps.askedOf file before after a suit
+  early-no {r} e h =
+      let most = first-most 11 (firstQuestions file a (length before) (length after)) (first-numbered file a (length before) (length after)) in
+      unwritten (ladder-early file a (length before) (length after) suit (λ z. h (e ∙ z)) ∙ sym e) h (λ z. omega (arith, most, e))
+
+  module _ {r : ℕ} (e : r ≡ first-no) (z : r ≡ 0) where
+    pub unsuited-no : not suit ≡ true → steps.asked 12 a ≡ steps.askedOf file before after a suit
+    unsuited-no n = unwritten (ladder-12 file a (length before) (length after) suit (sym e ∙ z) (not-true suit n)) (λ q. omega arith) (λ q. omega arith)
+
+  -- what Run answers and leaves
+  module _ (y : not suit ≡ false) (x : Planning) {b : Areas} (ran : outcome (onPaper x) b ≡ runOf file before after a) where
+    abbrev run-no : ℕ
+    run-no = firstNo (questions file a (length before) (length after))
+
+    answer-is : onPaper x ≡ unless run-no (totalsOf (frames (circuitOf file)))
+    answer-is = run-is file before after a ran .0
+
+    left-is : b ≡ left run-no
+    left-is = run-is file before after a ran .1
+
+    ends : {n : ℕ} → run-no ≡ n → steps.asked n b ≡ steps.askedOf file before after a suit
+    ends {n} e = sym (answers (ladder-run file a (length before) (length after) suit (not-false suit y) ∙ e) ∙ ap (steps.asked n) (ap left (sym e) ∙ sym left-is))
+
+    pub run-refused : {n : ℕ} → x ≡ Q.Refused n → steps.asked n b ≡ steps.askedOf file before after a suit
+    unfolding onPaper
+    run-refused {n} q = ends (refused-some run-no _ (sym answer-is ∙ ap onPaper q) .0)
+
+    pub run-accepted : {totals : Totals} → x ≡ Q.Planned totals → steps.asked 0 b ≡ steps.askedOf file before after a suit
+    unfolding onPaper
+    run-accepted q = ends (accepted-none run-no _ (sym answer-is ∙ ap onPaper q) .0)

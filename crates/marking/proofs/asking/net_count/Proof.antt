@@ -1,0 +1,29 @@
+-- `net_count` meets its contract: an accepted file has at most 32 inputs and 128 gates, so the sum fits.
+-- Assumes nothing.
+use native.Mathlib.Omega.{arith}
+use Rattle.marking.proofs.Judging.{nets-none, nets-are, nets-few}
+use borrow.Author.Needs.{needs}
+use Rattle.marking.proofs.asking.net_count.Statement.{statement}
+use Rattle.marking.proofs.asking.net_count.Tie as tie
+
+read-requires : tie.Need-read-requires
+read-requires c κs = search needs
+
+enum-told : tie.Need-enum-told
+enum-told c = search needs
+
+enum-known-inputs : tie.Need-enum-known-inputs
+enum-known-inputs c = search needs
+
+add-result : tie.Need-add-result
+add-result c = omega (arith, nets-few _ (c .before .before .before .read .ensures) (c .before .inputs .given .1))
+
+returns : tie.Need-returns
+returns c = nets-none _ (c .before .before .read .ensures) (c .enum-told .given .1)
+
+returns-2 : tie.Need-returns-2
+returns-2 c = nets-are _ (c .before .before .before .read .ensures) (c .before .inputs .given .1)
+
+pub net-count-spec : {M : Type 1} → statement M
+net-count-spec =
+    tie.close (tie.spec read-requires enum-told enum-known-inputs add-result returns returns-2)

@@ -1,0 +1,67 @@
+// Mark: a circuit is run, and the run is held against a list of expectations.
+ghost use mathlib.Core.Path.{_≡_};
+ghost use Rattle.lists.specs.Outcome.{outcome};
+ghost use Rattle.engine.specs.Areas.{areas};
+ghost use Rattle.marking.specs.Mark.{markOf, onPaper};
+
+mod asking;
+mod search;
+
+use asking::all_suit;
+use asking::net_count;
+use asking::run_asked;
+use method::Frame;
+use method::Net;
+use method::Time;
+use search::first_unmet;
+
+// What a marker expects: on this net, in this lane, this level (0 or 1) at every time from `from` to `to`, both included.
+pub struct Expectation {
+    pub net: Net,
+    pub lane: u8,
+    pub from: Time,
+    pub to: Time,
+    pub level: u8,
+}
+
+// What Mark answers: all met; or the position of the first expectation that is not, from 0, with the first frame that
+// breaks it; or the number of the first "no".
+pub enum Marking {
+    AllMet,
+    Unmet(usize, Frame),
+    Refused(u8),
+}
+
+// Runs the circuit of the file as Run does, and marks the run: questions 1 to 11, then 12, then 13. The areas are left as
+// Run leaves them, whatever the verdict. Proved by hand, as the list is lent.
+pub fn mark<'a>(
+    file: &'a [u8],
+    directory: &'a mut [u16],
+    times: &'a mut [u16],
+    inertial: &'a mut [u16],
+    fanins: &'a mut [u16],
+    values: &'a mut [u64],
+    before: &'a [u64],
+    after: &'a [u64],
+    expectations: &'a [Expectation],
+) -> Marking
+    ensures { λ r. ⌜ outcome (onPaper r) (areas (now (directory .exit)) (now (times .exit)) (now (inertial .exit)) (now (fanins .exit)) (now (values .exit))) ≡ markOf (now (file .entry)) (now (before .entry)) (now (after .entry)) (areas (now (directory .entry)) (now (times .entry)) (now (inertial .entry)) (now (fanins .entry)) (now (values .entry))) (now (expectations .entry)) ⌝ }
+{
+    // 12 writes nothing, so its answer may be had before that of 1 to 11; it is given behind them
+    let suit = all_suit(expectations, net_count(file));
+    let fault = run_asked(
+        file,
+        directory,
+        times,
+        inertial,
+        fanins,
+        values,
+        before,
+        after,
+        suit,
+    );
+    if fault != 0 {
+        return Marking::Refused(fault);
+    }
+    first_unmet(directory, times, values, expectations)
+}
