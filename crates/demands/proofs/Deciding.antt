@@ -1,0 +1,50 @@
+-- A call that answers by its ladder of questions answers as demand 1 has it, and leaves what document 01 lays down.
+-- Assumes nothing.
+use Prim.Native.Nat.{ℕ, zero, suc, _≤_}
+use mathlib.Core.Path.{_≡_, refl, sym, ap, subst, _∙_}
+use mathlib.Core.Bool.{Bool, true, false}
+use mathlib.Core.List.{List, [], _∷_}
+use native.Mathlib.Omega.{arith}
+use Rattle.lists.specs.Ladder.{Question, firstNo, unless}
+use Rattle.lists.specs.Outcome.{leftBy}
+use Rattle.lists.specs.Every.{none, one}
+use Rattle.lists.proofs.Ladders.{Numbered, unless-none, unless-some}
+use Rattle.lists.proofs.Leaving.{left-none, left-13, left-other}
+use Rattle.demands.specs.Answers.{AllYes, FirstFails, Answered, all-yes, first-no, Leaves, SameRefusal, refusals, acceptances}
+
+-- every answer is yes, or there is a first "no"
+data Decision (qs : List Question) : Type 0 where
+  yes-all : AllYes qs → firstNo qs ≡ 0 → Decision qs
+  no-first : (q : Question) → FirstFails qs q → firstNo qs ≡ q .number → 1 ≤ q .number → Decision qs
+
+decide : (most : ℕ) (qs : List Question) → Numbered most qs → Decision qs
+unfolding firstNo
+decide most [] h = yes-all none refl
+decide most (q ∷ qs) h = go (q .yes) refl (decide most qs (h .2))
+  where
+    go : (b : Bool) → q .yes ≡ b → Decision qs → Decision (q ∷ qs)
+    go true e (yes-all all z) = yes-all (one e all) (rw e z)
+    go true e (no-first p f is low) =
+        no-first p (record { before = q ∷ f .before; behind = f .behind; splits = ap (λ (ps : List Question). q ∷ ps) (f .splits); passed = one e (f .passed); fails = f .fails })
+        (rw e is) low
+    go false e d = no-first q (record { before = []; behind = qs; splits = refl; passed = none; fails = e }) (rw e) (h .0)
+
+pub answered : {R : Type 0} (most : ℕ) (qs : List Question) → Numbered most qs → (values : R) → Answered qs values (unless (firstNo qs) values)
+answered most qs h values = go (decide most qs h)
+  where
+    go : Decision qs → Answered qs values (unless (firstNo qs) values)
+    go (yes-all all z) = subst (Answered qs values) (sym (unless-none (firstNo qs) values z)) (all-yes all)
+    go (no-first q f is low) =
+        subst (Answered qs values) (sym (ap (λ (n : ℕ). unless n values) is ∙ unless-some (q .number) values (λ z. omega (arith, low, z)))) (first-no q f)
+
+pub leaves : {R S : Type 0} (n : ℕ) (values : R) (filled zeros entry : S) → Leaves (unless n values) filled zeros entry (leftBy n filled zeros entry)
+unfolding unless
+leaves zero values filled zeros entry = left-none filled zeros entry
+leaves (suc n) values filled zeros entry =
+    (λ e. rw e (left-13 filled zeros entry), λ k. left-other filled zeros entry (suc n) (λ z. omega arith) k)
+
+-- the same first "no", whatever the values
+pub same-refusal : {R : Type 0} (n : ℕ) (values values′ : R) → SameRefusal (unless n values) (unless n values′)
+unfolding unless
+same-refusal zero values values′ = acceptances values values′
+same-refusal (suc n) values values′ = refusals (suc n)

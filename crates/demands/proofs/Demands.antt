@@ -1,0 +1,149 @@
+-- The conditions of purchase, as `specs/Demands` states them, proved.
+-- Assumes nothing.
+use Prim.Native.Nat.{ℕ, suc}
+use mathlib.Core.Path.{_≡_, refl, sym, ap, _∙_}
+use mathlib.Core.Bool.{true}
+use mathlib.Core.List.{List, map}
+use lib.ListN.{length}
+use Rattle.lists.specs.Ladder.{firstNo}
+use Rattle.method.specs.Frames.{frames}
+use Rattle.method.specs.Look.{level, changes}
+use Rattle.method.specs.Words.{lane}
+use Rattle.circuit.specs.File.{circuitOf}
+use Rattle.circuit.specs.Questions as circuit
+use Rattle.circuit.proofs.Gated.{questions-numbered}
+use Rattle.planner.specs.Plan.{totalsOf, planOf}
+use Rattle.planner.specs.Questions as planner
+use Rattle.planner.specs.Layout.{laid}
+use Rattle.planner.specs.Areas as plan
+use Rattle.planner.proofs.Calling.{plan-numbered}
+use Rattle.engine.specs.Areas.{Areas, allCleared}
+use Rattle.engine.specs.Values.{netCount}
+use Rattle.engine.specs.Questions as engine
+use Rattle.engine.specs.Run.{filled, runLeft, runOf}
+use Rattle.engine.specs.Look.{lookQuestions, levelOf, countOf}
+use Rattle.engine.specs.After.{After, Alike}
+use Rattle.engine.proofs.Answering.{all-numbered}
+use Rattle.engine.proofs.Seeing.{look-numbered}
+use Rattle.engine.proofs.After.{after-runs, plan-left}
+use Rattle.marking.specs.declared.Expectation.{Expectation}
+use Rattle.marking.specs.Questions as marking
+use Rattle.marking.specs.Verdict.{place, verdict}
+use Rattle.marking.specs.Mark.{markOf}
+use Rattle.marking.proofs.Laddered.{ladder-numbered, ladder-run}
+use Rattle.demands.specs.Answers.{SameRefusal}
+use Rattle.demands.specs.Runs.{Ran}
+use Rattle.demands.specs.Demands.{Demand1, Demand2Method, Demand2Patterns, Demand2Marking, Demand3Level, Demand3Changes, TwoRuns, Demand3Alike, Demands}
+use Rattle.demands.proofs.Deciding.{answered, leaves, same-refusal}
+use Rattle.demands.proofs.Holding.{plan-holds, engine-ran, run-holds, run-values}
+use Rattle.demands.proofs.Meeting.{passes, passes-machine, fails}
+use Rattle.demands.proofs.Alike.{marked-alike}
+
+-- ---- demand 1
+
+-- Mark's first "no" is then Run's
+mark-as-run : (file before after : List ℕ) (a : Areas) (list : List Expectation) → marking.listSuits (netCount (circuitOf file)) list ≡ true → markOf file before after a list .left ≡ runOf file before after a .left
+unfolding markOf runOf
+mark-as-run file before after a list y =
+    ap (λ (n : ℕ). runLeft n (circuitOf file) before after a) (ladder-run file a (length before) (length after) _ y)
+
+demand-1 : Demand1
+unfolding circuit.readOf planOf runOf markOf levelOf countOf
+demand-1 =
+    record {
+      read = λ file. answered 9 (circuit.questions file) (questions-numbered file) (circuit.sizeOf file);
+      plan = λ file a. answered 13 (planner.questions file a) (plan-numbered file a) (totalsOf (frames (circuitOf file)));
+      plan-areas = λ file a. leaves (firstNo (planner.questions file a)) (totalsOf (frames (circuitOf file))) (laid (frames (circuitOf file)) a) (plan.allCleared a) a;
+      run = λ file before after a.
+          answered 13 (engine.questions file a (length before) (length after)) (all-numbered file a (length before) (length after)) (totalsOf (frames (circuitOf file)));
+      run-areas = λ file before after a.
+          leaves (firstNo (engine.questions file a (length before) (length after))) (totalsOf (frames (circuitOf file))) (filled (circuitOf file) before after a) (allCleared a) a;
+      mark = λ file before after a list.
+          answered 13 (marking.questions file a (length before) (length after) list) (ladder-numbered file a (length before) (length after) _) (verdict (circuitOf file) before after list);
+      mark-areas = λ file before after a list.
+          leaves (firstNo (marking.questions file a (length before) (length after) list)) (verdict (circuitOf file) before after list) (filled (circuitOf file) before after a) (allCleared a) a;
+      mark-as-run = mark-as-run;
+      level = λ times values L t. answered 16 (lookQuestions times values L) (look-numbered times values L) (level times (map (lane L) values) t);
+      count = λ times values L. answered 16 (lookQuestions times values L) (look-numbered times values L) (changes (map (lane L) values));
+    }
+
+-- ---- demand 2
+
+module _ (file before after : List ℕ) (left : Areas) (r : Ran file before after left) where
+  past-run : After file before after left
+  past-run = after-runs .after-run file before after left (engine-ran file before after r)
+
+demand-2-method : Demand2Method
+demand-2-method =
+    record {
+      plan = plan-holds;
+      run-plan = λ file before after left r. run-holds file before after (engine-ran file before after r);
+      run-values = λ file before after left r. run-values file before after (engine-ran file before after r);
+      counts = λ file before after left r. past-run file before after left r .count-is-own;
+      counts-machine = λ file before after left r. past-run file before after left r .count-is-machine;
+    }
+
+mark-patterns : (file before after before′ after′ : List ℕ) (a : Areas) (list : List Expectation) → length before ≡ length before′ → length after ≡ length after′
+    → SameRefusal (markOf file before after a list .answer) (markOf file before′ after′ a list .answer) × (markOf file before after a list .left .plan ≡ markOf file before′ after′ a list .left .plan)
+unfolding markOf
+mark-patterns file before after before′ after′ a list p q = (
+  rw (p, q) (same-refusal (firstNo (marking.questions file a (length before′) (length after′) list)) (verdict (circuitOf file) before after list) (verdict (circuitOf file) before′ after′ list)),
+  plan-left _ (circuitOf file) before after a ∙ rw (p, q) (sym (plan-left _ (circuitOf file) before′ after′ a)),
+)
+
+demand-2-patterns : Demand2Patterns
+demand-2-patterns = record { run = after-runs .words-alike; mark = mark-patterns }
+
+demand-2-marking : Demand2Marking
+demand-2-marking =
+    record {
+      passes = passes;
+      passes-machine = passes-machine;
+      fails = λ file before after list i k left m. fails file before after list (place i k) left m i k refl;
+    }
+
+-- ---- demand 3
+
+demand-3-level : Demand3Level
+demand-3-level =
+    record {
+      level = λ file before after left r n L t h l u. past-run file before after left r .level-is-machine n L t h l;
+      parts = λ file before after left r. past-run file before after left r .parts;
+    }
+
+demand-3-changes : Demand3Changes
+demand-3-changes =
+    record {
+      changes = λ file before after left r n L t h l u d.
+          let a = past-run file before after left r in sym (a .times-are-potential n (suc t) h) ∙ a .changes-at-times n L t h l d;
+      times = λ file before after left r. past-run file before after left r .times-are-potential;
+    }
+
+module _ (L : ℕ) (file before after : List ℕ) (left : Areas) (file′ before′ after′ : List ℕ) (left′ : Areas) (two : TwoRuns L file before after left file′ before′ after′ left′) where
+  alike : Alike (circuitOf file) L left left′
+  alike =
+      after-runs .runs-alike file file′ before after before′ after′ left left′ L (two .lane) (engine-ran file before after (two .ran)) (engine-ran file′ before′ after′ (two .ran′))
+      (two .one-circuit) (two .before-agree) (two .after-agree)
+
+demand-3-alike : Demand3Alike
+demand-3-alike =
+    record {
+      level = λ L file before after left file′ before′ after′ left′ two n t h u. alike L file before after left file′ before′ after′ left′ two .same-level n t h;
+      count = λ L file before after left file′ before′ after′ left′ two. alike L file before after left file′ before′ after′ left′ two .same-count;
+      marking = λ L file before after left file′ before′ after′ left′ two.
+          marked-alike file before after file′ before′ after′ L (engine-ran file before after (two .ran)) (engine-ran file′ before′ after′ (two .ran′)) (two .one-circuit) (two .before-agree) (two .after-agree);
+    }
+
+-- ---- all of them
+
+pub demands : Demands
+demands =
+    record {
+      demand-1 = demand-1;
+      demand-2-method = demand-2-method;
+      demand-2-patterns = demand-2-patterns;
+      demand-2-marking = demand-2-marking;
+      demand-3-level = demand-3-level;
+      demand-3-changes = demand-3-changes;
+      demand-3-alike = demand-3-alike;
+    }

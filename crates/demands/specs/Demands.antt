@@ -1,0 +1,161 @@
+-- The conditions of purchase, sentence by sentence. The calls' contracts say that what `read`, `plan`, `run`, `level`,
+-- `count` and `mark` answer and leave is `readOf`, `planOf`, `runOf`, `levelOf`, `countOf` and `markOf`; here stands what
+-- holds of these. `demands` in `proofs/Demands` proves it.
+use Prim.Native.Nat.{ℕ, suc, _<_, _≤_}
+use mathlib.Core.Path.{_≡_}
+use mathlib.Core.Logic.{_≢_}
+use mathlib.Core.Bool.{true}
+use mathlib.Core.List.{List, map}
+use lib.ListN.{length}
+use Rattle.lists.specs.Ladder.{accepted}
+use Rattle.lists.specs.Areas.{padded}
+use Rattle.lists.specs.Outcome.{outcome}
+use Rattle.lists.specs.Every.{Every}
+use Rattle.method.specs.Times.{among}
+use Rattle.method.specs.Frames.{frames}
+use Rattle.method.specs.Traces.{traceAt}
+use Rattle.method.specs.Look.{level, changes}
+use Rattle.method.specs.Machine.{machine}
+use Rattle.method.specs.Words.{lane}
+use Rattle.method.specs.Packed.{laneOf}
+use Rattle.method.specs.Agreement.{changedTimes, potential}
+use Rattle.method.specs.Lanes.{AgreeIn}
+use Rattle.circuit.specs.File.{circuitOf}
+use Rattle.circuit.specs.Questions as circuit
+use Rattle.planner.specs.declared.Totals.{Totals}
+use Rattle.planner.specs.Areas.{Areas as PlanAreas, allCleared as planCleared}
+use Rattle.planner.specs.Layout.{laid}
+use Rattle.planner.specs.Questions as planner
+use Rattle.planner.specs.Plan.{totalsOf, planOf}
+use Rattle.engine.specs.Areas.{Areas, allCleared}
+use Rattle.engine.specs.Values.{netCount, allValues}
+use Rattle.engine.specs.Questions as engine
+use Rattle.engine.specs.Run.{filled, runOf}
+use Rattle.engine.specs.Look.{lookQuestions, levelOf, countOf}
+use Rattle.engine.specs.After.{timesOf, levelIn, countIn, NetParts, lastTime}
+use Rattle.marking.specs.declared.Expectation.{Expectation}
+use Rattle.marking.specs.Questions as marking
+use Rattle.marking.specs.Verdict.{Verdict, allMet, place, verdict}
+use Rattle.marking.specs.Mark.{markOf}
+use Rattle.demands.specs.Answers.{Answered, Leaves, SameRefusal, SameVerdict}
+use Rattle.demands.specs.Runs.{Marked, Ran, HoldsPlan}
+use Rattle.demands.specs.Marks.{Met, MetByMachine, Place}
+
+-- ---- demand 1
+
+-- "A student or marker who hands in a file, word lists and memory areas of whatever content gets an answer or, exactly when
+-- a question in document 01 fails, the number of the first that does, and finds in every area just what that paper lays
+-- down for it."
+pub record Demand1 : Type 0 where
+  pub read : (file : List ℕ) → Answered (circuit.questions file) (circuit.sizeOf file) (circuit.readOf file)
+  pub plan : (file : List ℕ) (a : PlanAreas) → Answered (planner.questions file a) (totalsOf (frames (circuitOf file))) (planOf file a .answer)
+  pub plan-areas : (file : List ℕ) (a : PlanAreas) → Leaves (planOf file a .answer) (laid (frames (circuitOf file)) a) (planCleared a) a (planOf file a .left)
+  pub run : (file before after : List ℕ) (a : Areas)
+      → Answered (engine.questions file a (length before) (length after)) (totalsOf (frames (circuitOf file))) (runOf file before after a .answer)
+  pub run-areas : (file before after : List ℕ) (a : Areas)
+      → Leaves (runOf file before after a .answer) (filled (circuitOf file) before after a) (allCleared a) a (runOf file before after a .left)
+  pub mark : (file before after : List ℕ) (a : Areas) (list : List Expectation)
+      → Answered (marking.questions file a (length before) (length after) list) (verdict (circuitOf file) before after list) (markOf file before after a list .answer)
+  pub mark-areas : (file before after : List ℕ) (a : Areas) (list : List Expectation)
+      → Leaves (markOf file before after a list .answer) (filled (circuitOf file) before after a) (allCleared a) a (markOf file before after a list .left)
+  -- where the list passes question 12, Mark leaves the areas as Run does
+  pub mark-as-run : (file before after : List ℕ) (a : Areas) (list : List Expectation) → marking.listSuits (netCount (circuitOf file)) list ≡ true
+      → markOf file before after a list .left ≡ runOf file before after a .left
+  pub level : (times values : List ℕ) (L t : ℕ) → Answered (lookQuestions times values L) (level times (map (lane L) values) t) (levelOf times values L t)
+  pub count : (times values : List ℕ) (L : ℕ) → Answered (lookQuestions times values L) (changes (map (lane L) values)) (countOf times values L)
+
+-- ---- demand 2
+
+-- "For each accepted circuit, the frame times, fan-in indices, inertial indices, packed values and change counts are those
+-- of the potential-change-frame method of the published paper (source document 004), with the corrections that document 01
+-- lists;"
+pub record Demand2Method : Type 0 where
+  pub plan : (file : List ℕ) (entry left : PlanAreas) (totals : Totals)
+      → outcome (accepted totals) left ≡ planOf file entry → HoldsPlan (circuitOf file) left
+  pub run-plan : (file before after : List ℕ) (left : Areas) → Ran file before after left → HoldsPlan (circuitOf file) (left .plan)
+  pub run-values : (file before after : List ℕ) (left : Areas) → Ran file before after left
+      → left .values ≡ padded engine.valuesLength (allValues (circuitOf file) before after)
+  -- what Count answers is the number of changes of the lane's own values, and of the machine's level from 1 to 65,535
+  pub counts : (file before after : List ℕ) (left : Areas) → Ran file before after left → (n L : ℕ) → n < netCount (circuitOf file) → L < 64
+      → countIn left n L ≡ accepted (changes (traceAt (circuitOf file) (laneOf L before after) n .values))
+  pub counts-machine : (file before after : List ℕ) (left : Areas) → Ran file before after left → (n L : ℕ) → n < netCount (circuitOf file) → L < 64
+      → countIn left n L ≡ accepted (changedTimes (machine (circuitOf file) (laneOf L before after) n) lastTime)
+
+-- Document 01 adds: "No pattern bit enters a number, a plan area or these totals." Word lists of equal lengths give the same
+-- answer of Run; of Mark the same refusal, or two acceptances; and the same plan areas
+pub record Demand2Patterns : Type 0 where
+  pub run : (file before after before′ after′ : List ℕ) (a : Areas) → length before ≡ length before′ → length after ≡ length after′
+      → (runOf file before after a .answer ≡ runOf file before′ after′ a .answer)
+      × (runOf file before after a .left .plan ≡ runOf file before′ after′ a .left .plan)
+  pub mark : (file before after before′ after′ : List ℕ) (a : Areas) (list : List Expectation)
+      → length before ≡ length before′ → length after ≡ length after′
+      → SameRefusal (markOf file before after a list .answer) (markOf file before′ after′ a list .answer)
+      × (markOf file before after a list .left .plan ≡ markOf file before′ after′ a list .left .plan)
+
+-- "and a marking passes exactly if every expectation is met at each time it covers."
+pub record Demand2Marking : Type 0 where
+  pub passes : (file before after : List ℕ) (list : List Expectation) (v : Verdict) (left : Areas) → Marked file before after list v left
+      → (v ≡ allMet → Every (Met left) list) × (Every (Met left) list → v ≡ allMet)
+  -- the levels are the machine's
+  pub passes-machine : (file before after : List ℕ) (list : List Expectation) (v : Verdict) (left : Areas) → Marked file before after list v left
+      → (v ≡ allMet → Every (MetByMachine (circuitOf file) before after) list)
+      × (Every (MetByMachine (circuitOf file) before after) list → v ≡ allMet)
+  -- a marking that does not pass names the first expectation that is not met, and the frame that breaks it
+  pub fails : (file before after : List ℕ) (list : List Expectation) (i k : ℕ) (left : Areas)
+      → Marked file before after list (place i k) left → Place left list i k
+
+-- ---- demand 3
+
+-- "After whatever accepted run, on whatever net, in whichever of the 64 lanes and at whatever point in time from 0 to 65,535
+-- you look, the level is that of the time-by-time machine in document 01, run for that lane's pattern pair by itself."
+pub record Demand3Level : Type 0 where
+  pub level : (file before after : List ℕ) (left : Areas) → Ran file before after left
+      → (n L t : ℕ) → n < netCount (circuitOf file) → L < 64 → t ≤ lastTime
+      → levelIn left n L t ≡ accepted (machine (circuitOf file) (laneOf L before after) n t)
+  -- where one looks: the net's pair in the directory names 1 to 64 frames, which lie within the areas
+  pub parts : (file before after : List ℕ) (left : Areas) → Ran file before after left → (n : ℕ) → n < netCount (circuitOf file) → NetParts left n
+
+-- "From time 1 on it differs from the level one unit earlier only at a potential time of the net."
+pub record Demand3Changes : Type 0 where
+  pub changes : (file before after : List ℕ) (left : Areas) → Ran file before after left
+      → (n L t : ℕ) → n < netCount (circuitOf file) → L < 64 → suc t ≤ lastTime
+      → levelIn left n L (suc t) ≢ levelIn left n L t → potential (circuitOf file) n (suc t) ≡ true
+  -- the net's entries in the times area are its potential times
+  pub times : (file before after : List ℕ) (left : Areas) → Ran file before after left
+      → (n t : ℕ) → n < netCount (circuitOf file) → among t (timesOf left n) ≡ potential (circuitOf file) n t
+
+-- "Two accepted runs of one circuit whose words agree in a lane, whatever the other 63 lanes of each hold,"
+pub record TwoRuns (L : ℕ) (file before after : List ℕ) (left : Areas) (file′ before′ after′ : List ℕ) (left′ : Areas) : Type 0 where
+  pub lane : L < 64
+  pub ran : Ran file before after left
+  pub ran′ : Ran file′ before′ after′ left′
+  pub one-circuit : circuitOf file ≡ circuitOf file′
+  pub before-agree : AgreeIn L (circuitOf file .inputs) before before′
+  pub after-agree : AgreeIn L (circuitOf file .inputs) after after′
+
+-- "are alike in that lane: the same level on every net at every time from 0 to 65,535, the same transition count of every net,
+-- and the same marking." A marking is Mark's answer for a list that passes question 12 and whose records all name that lane;
+-- Mark is lent areas of the right lengths and whatever content
+pub record Demand3Alike : Type 0 where
+  pub level : (L : ℕ) (file before after : List ℕ) (left : Areas) (file′ before′ after′ : List ℕ) (left′ : Areas)
+      → TwoRuns L file before after left file′ before′ after′ left′
+      → (n t : ℕ) → n < netCount (circuitOf file) → t ≤ lastTime → levelIn left n L t ≡ levelIn left′ n L t
+  pub count : (L : ℕ) (file before after : List ℕ) (left : Areas) (file′ before′ after′ : List ℕ) (left′ : Areas)
+      → TwoRuns L file before after left file′ before′ after′ left′
+      → (n : ℕ) → n < netCount (circuitOf file) → countIn left n L ≡ countIn left′ n L
+  pub marking : (L : ℕ) (file before after : List ℕ) (left : Areas) (file′ before′ after′ : List ℕ) (left′ : Areas)
+      → TwoRuns L file before after left file′ before′ after′ left′
+      → (list : List Expectation) → marking.listSuits (netCount (circuitOf file)) list ≡ true → Every (λ (e : Expectation). e .lane ≡ L) list
+      → (entry entry′ : Areas) → engine.areasSuit entry ≡ true → engine.areasSuit entry′ ≡ true
+      → SameVerdict (markOf file before after entry list .answer) (markOf file′ before′ after′ entry′ list .answer)
+
+-- ---- all of them
+
+pub record Demands : Type 0 where
+  pub demand-1 : Demand1
+  pub demand-2-method : Demand2Method
+  pub demand-2-patterns : Demand2Patterns
+  pub demand-2-marking : Demand2Marking
+  pub demand-3-level : Demand3Level
+  pub demand-3-changes : Demand3Changes
+  pub demand-3-alike : Demand3Alike

@@ -1,0 +1,6 @@
+-- The conditions of purchase: Demands has every sentence as a statement. Answers, Runs and Marks are the words in which it
+-- speaks: how questions are answered, what an accepted run is, and when an expectation is met.
+pub mod Answers
+pub mod Runs
+pub mod Marks
+pub mod Demands
