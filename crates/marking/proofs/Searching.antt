@@ -9,7 +9,7 @@ use mathlib.Core.List.{List, [], _∷_, map}
 use native.Mathlib.Omega.{arith}
 use lib.Dec.{leb}
 use lib.ListN.{length, getD, drop, drop-of-length-le}
-use lib.Seq.{drop-cons, getD-take, getD-drop}
+use lib.Seq.{drop-cons}
 use borrow.Author.Tests.{le-leb, lt-leb}
 use Rattle.lists.specs.Tables.{every}
 use Rattle.lists.proofs.Choices.{order, and-left, and-right}
@@ -22,6 +22,7 @@ use Rattle.method.proofs.Tracing.{value-each}
 use Rattle.method.proofs.Lanes.{in-lanes}
 use Rattle.circuit.specs.File.{circuitOf}
 use Rattle.planner.specs.Layout.{firstFrame, frameCount, partOf}
+use Rattle.planner.proofs.Spans.{part-entry}
 use Rattle.engine.specs.Areas.{Areas}
 use Rattle.engine.specs.Values.{netCount}
 use Rattle.engine.specs.After.{After}
@@ -32,11 +33,6 @@ use Rattle.marking.proofs.Judging.{net-below, lane-below}
 use Rattle.marking.specs.Steps.{breaksAt, searchedFrames, searchedFrom, searched}
 
 -- ---- the frames of an expectation's net
-
--- entry k of net n's part of an area
-part-entry : (d area : List ℕ) (n k : ℕ) → k < frameCount d n → getD area (firstFrame d n + k) 0 ≡ getD (partOf d area n) k 0
-unfolding partOf
-part-entry d area n k h = sym (getD-take (frameCount d n) (drop (firstFrame d n) area) k 0 h ∙ getD-drop (firstFrame d n) area k 0)
 
 -- where the net's parts of the areas are these times and, in the expectation's lane, these levels
 module _ (d t v : List ℕ) (e : Expectation) (times : List ℕ) (levels : List Bool)

@@ -1,33 +1,14 @@
 // The search for the first expectation that a run does not meet.
 ghost use mathlib.Core.Path.{_≡_};
-ghost use lib.ListN.{getD};
 ghost use Rattle.lists.specs.Ladder.{accepted};
 ghost use Rattle.planner.specs.Layout.{frameCount};
 ghost use Rattle.marking.specs.Mark.{onPaper};
 ghost use Rattle.marking.specs.Steps.{breaksAt, searched};
 use crate::Expectation;
 use crate::Marking;
+use lists::entry_at;
+use lists::word_at;
 use method::Frame;
-
-// An entry of an area; 0 beyond its end.
-pub(crate) fn entry_at(area: &[u16], place: usize) -> u16
-    ensures { λ r. ⌜ r ≡ getD (now (area .entry)) place 0 ⌝ }
-{
-    if area.len() <= place {
-        return 0;
-    }
-    area[place]
-}
-
-// A word of the values; 0 beyond their end.
-pub(crate) fn word_at(values: &[u64], place: usize) -> u64
-    ensures { λ r. ⌜ r ≡ getD (now (values .entry)) place 0 ⌝ }
-{
-    if values.len() <= place {
-        return 0;
-    }
-    values[place]
-}
 
 // How many frames the net of an expectation has.
 pub(crate) fn frame_count<'a>(e: Expectation, directory: &'a [u16]) -> u16

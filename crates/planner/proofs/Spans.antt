@@ -1,12 +1,12 @@
 -- The times of nets that are planned already, read from the areas.
 -- Assumes nothing.
 use Prim.Native.Nat.{ℕ, zero, suc, _+_, _-_, _*_, _<_, _≤_}
-use mathlib.Core.Path.{_≡_, _∙_}
+use mathlib.Core.Path.{_≡_, sym, _∙_}
 use mathlib.Core.List.{List, [], _∷_}
 use native.Mathlib.Omega.{arith}
 use native.Mathlib.Numerals.{add-one}
 use lib.ListN.{length, getD, take, drop, length-map, length-drop, List·getD-map}
-use lib.Seq.{length-take-le, drop-cons, getD-drop}
+use lib.Seq.{length-take-le, drop-cons, getD-take, getD-drop}
 use Rattle.lists.specs.Tables.{tabulate}
 use Rattle.lists.proofs.Tabled.{from-length, tabulate-at}
 use Rattle.lists.proofs.ByNumber.{getD-any}
@@ -15,7 +15,7 @@ use Rattle.circuit.specs.declared.GateRecord.{GateRecord}
 use Rattle.circuit.specs.File.{faninAt}
 use Rattle.circuit.specs.Limits.{mostTime}
 use Rattle.planner.specs.Limits.{mostNetFrames}
-use Rattle.planner.specs.Layout.{partOf}
+use Rattle.planner.specs.Layout.{firstFrame, frameCount, partOf}
 use Rattle.planner.specs.Steps.{Fed, spans}
 
 -- ---- one net
@@ -26,6 +26,11 @@ unfolding partOf
 part-read d t n {first} {end} p q =
     let m : end - first ≡ getD d (2 * n + 1) 0 = omega arith in
     rw (m, p)
+
+-- entry k of net n's part of an area
+pub part-entry : (d area : List ℕ) (n k : ℕ) → k < frameCount d n → getD area (firstFrame d n + k) 0 ≡ getD (partOf d area n) k 0
+unfolding partOf
+part-entry d area n k h = sym (getD-take (frameCount d n) (drop (firstFrame d n) area) k 0 h ∙ getD-drop (firstFrame d n) area k 0)
 
 take-early : (b m : ℕ) (l : List ℕ) → ((k : ℕ) → getD l k 0 ≤ b) → (k : ℕ) → getD (take m l) k 0 ≤ b
 take-early b zero l e k = omega arith
