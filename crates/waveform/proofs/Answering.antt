@@ -1,0 +1,205 @@
+-- What is printed: Run's answer to the lists that were taken from the word part is the wave program's answer to the file and
+-- the part; and the text fits.
+-- Assumes nothing.
+use Prim.Native.Nat.{ℕ, zero, suc, _+_, _*_, _≤_}
+use mathlib.Core.Path.{_≡_, refl, sym, ap, ap₂, _∙_}
+use mathlib.Core.Logic.{⊎-elim}
+use mathlib.Core.Bool.{Bool, true}
+use mathlib.Core.List.{List, [], _∷_, append-assoc}
+use native.Mathlib.Omega.{arith}
+use lib.ListN.{length}
+use lib.Dec.{eqb}
+use borrow.Author.Tests.{eqb-true, eq-eqb, ne-eqb}
+use Rattle.lists.specs.Ladder.{Question, _orElse_, firstNo}
+use Rattle.lists.specs.Outcome.{outcome}
+use Rattle.lists.proofs.Choices.{zero-or, bool-ext, and-left, and-both}
+use Rattle.lists.proofs.Ladders.{first, first-none, firstNo-append, asked, ask-yes, unless-none, refused-some}
+use Rattle.circuit.specs.File.{inputsOf, gatesOf, circuitOf}
+use Rattle.circuit.specs.Limits.{mostInputs, mostGates}
+use Rattle.circuit.specs.Questions as reader
+use Rattle.circuit.proofs.Gated.{questions-numbered}
+use Rattle.circuit.proofs.Accepted.{Head, passed}
+use Rattle.circuit.proofs.Parts.{circuit-inputs, gates-length}
+use Rattle.planner.specs.declared.Planning.{Planning}
+use Rattle.planner.specs.declared.Planning.the-variants as Q
+use Rattle.planner.specs.declared.Totals.{Totals}
+use Rattle.planner.specs.Plan.{onPaper}
+use Rattle.method.specs.Frames.{frames}
+use Rattle.planner.specs.Questions.{fits, lastQuestion}
+use Rattle.planner.specs.Questions as planner
+use Rattle.planner.proofs.Fitting.{fits-total}
+use Rattle.engine.specs.Areas.{Areas, areas}
+use Rattle.engine.specs.Questions as engine
+use Rattle.engine.specs.Run.{runOf}
+use Rattle.engine.specs.Values.{netCount}
+use Rattle.engine.specs.After.{Ran}
+use Rattle.engine.proofs.Accepted.{held, none}
+use Rattle.engine.proofs.After.{after-runs}
+use Rattle.engine.proofs.Answering.{run-is}
+use Rattle.engine.proofs.Parts.{all-words}
+use Rattle.waveform.specs.Input.{wordsFrom, beforeWords, afterWords, questions}
+use Rattle.waveform.specs.Text.{refusal}
+use Rattle.waveform.specs.Lines.{lines}
+use Rattle.waveform.specs.Wave.{answerText, bufferLength}
+use Rattle.waveform.specs.Steps.{listLength, areaLines, runText}
+use Rattle.waveform.proofs.Taking.{words-length, list-exact, list-only}
+use Rattle.waveform.proofs.Lining.{lines-are}
+use Rattle.waveform.proofs.Lengths.{refusal-length, lines-length}
+
+-- areas of these lengths pass 10
+pub areas-pass : (d t i f v : List ℕ) → length d ≡ 320 → length t ≡ 2048 → length i ≡ 2048 → length f ≡ 16384 → length v ≡ 2048 → engine.areasSuit (areas d t i f v) ≡ true
+unfolding engine.areasSuit planner.areasSuit
+areas-pass d t i f v p q r s u = rw (eq-eqb _ _ p, eq-eqb _ _ q, eq-eqb _ _ r, eq-eqb _ _ s, eq-eqb _ _ u) refl
+
+-- ---- a run
+
+module _ (file before after : List ℕ) (a : Areas) where
+  abbrev number : ℕ
+  number = firstNo (engine.questions file a (length before) (length after))
+
+  text-yes : number ≡ 0 → runText file a before after ≡ lines (circuitOf file) before after
+  unfolding runText
+  text-yes e = rw (eq-eqb number 0 e) refl
+
+  text-no : (number ≡ 0 → ⊥) → runText file a before after ≡ refusal number
+  unfolding runText
+  text-no e = rw (ne-eqb number 0 e) refl
+
+  module _ {r : Planning} {b : Areas} (e : outcome (onPaper r) b ≡ runOf file before after a) where
+    -- a "no"
+    pub run-refused : {n : ℕ} → r ≡ Q.Refused n → refusal n ≡ runText file a before after
+    unfolding onPaper
+    run-refused {n} q =
+        let s = refused-some number _ (sym (run-is file before after a e .0) ∙ ap onPaper q) in
+        sym (text-no (λ z. omega (arith, s .0, s .1, z)) ∙ ap refusal (s .0))
+
+    module _ {totals : Totals} (q : r ≡ Q.Planned totals) where
+      ran : Ran file before after b
+      unfolding onPaper
+      ran = record { totals = totals; entry = a; ran = ap (λ (x : Planning). outcome (onPaper x) b) (sym q) ∙ e }
+
+      head : Head file
+      head = passed file _ (held file before after ran .read) .head
+
+      pub run-limits : (inputsOf file ≤ mostInputs) × (gatesOf file ≤ mostGates)
+      run-limits = (head .inputs-most, head .gates-most)
+
+      -- all lines
+      pub run-lines : {nets : ℕ} → nets ≡ inputsOf file + gatesOf file → areaLines (b .plan .directory) (b .plan .times) (b .values) nets ≡ runText file a before after
+      unfolding ran
+      run-lines {nets} p =
+          let m : nets ≡ netCount (circuitOf file) = omega (arith, p, circuit-inputs file, gates-length file) in
+          ap (areaLines (b .plan .directory) (b .plan .times) (b .values)) m
+          ∙ lines-are file before after (after-runs .after-run file before after b ran)
+          ∙ sym (text-yes (none file before after ran))
+
+-- ---- the lists and the part
+
+module _ (file part : List ℕ) where
+  abbrev n : ℕ
+  n = length part
+
+  abbrev each : ℕ
+  each = listLength n
+
+  -- where the circuit takes 1 to 32 words each, 11 asks the same of the lists and of the part
+  same-words : 1 ≤ inputsOf file → inputsOf file ≤ mostInputs → engine.wordsSuit (inputsOf file) each each ≡ eqb n (16 * inputsOf file)
+  unfolding engine.wordsSuit
+  same-words h l =
+      bool-ext _ _
+      (λ e. eq-eqb n (16 * inputsOf file) (list-only n (inputsOf file) h (eqb-true each (inputsOf file) (and-left (eqb each (inputsOf file)) _ e))))
+      (λ e. let q = eq-eqb each (inputsOf file) (list-exact n (inputsOf file) l (eqb-true n (16 * inputsOf file) e)) in and-both _ _ q q)
+
+  module _ (pass : firstNo (reader.questions file) ≡ 0) where
+    file-head : Head file
+    unfolding reader.readOf
+    file-head = passed file (reader.sizeOf file) (unless-none (firstNo (reader.questions file)) (reader.sizeOf file) pass) .head
+
+  -- the ladder behind the reader's
+  abbrev rest : List Question
+  rest = (eqb n (16 * inputsOf file) orElse 11) ∷ lastQuestion file
+
+  joined : firstNo (questions file part) ≡ first (firstNo (reader.questions file)) (firstNo rest)
+  unfolding questions
+  joined = firstNo-append 9 (reader.questions file) rest (questions-numbered file)
+
+  -- Run's ladder comes to the same
+  module _ (a : Areas) (suit : engine.areasSuit a ≡ true) where
+    abbrev own : List Question
+    own = (engine.areasSuit a orElse 10) ∷ (engine.wordsSuit (inputsOf file) each each orElse 11) ∷ lastQuestion file
+
+    run-joined : firstNo (engine.questions file a each each) ≡ first (firstNo (reader.questions file)) (firstNo own)
+    unfolding engine.questions engine.firstQuestions
+    run-joined =
+        ap firstNo (append-assoc (reader.questions file) (engine.ownQuestions (inputsOf file) a each each) (lastQuestion file))
+        ∙ firstNo-append 9 (reader.questions file) own (questions-numbered file)
+
+    same-rest : (m : ℕ) → firstNo (reader.questions file) ≡ m → first m (firstNo own) ≡ first m (firstNo rest)
+    same-rest zero e =
+        let h = file-head e in
+        ask-yes (engine.areasSuit a) 10 _ suit
+        ∙ ap (λ (b : Bool). firstNo ((b orElse 11) ∷ lastQuestion file)) (same-words (h .inputs-least) (h .inputs-most))
+    same-rest (suc m) e = refl
+
+    same-number : firstNo (engine.questions file a each each) ≡ firstNo (questions file part)
+    same-number = run-joined ∙ same-rest (firstNo (reader.questions file)) refl ∙ sym joined
+
+  -- no "no": the parts of that
+  module _ (e : firstNo (questions file part) ≡ 0) where
+    both : (firstNo (reader.questions file) ≡ 0) × (firstNo rest ≡ 0)
+    both = first-none (firstNo (reader.questions file)) (firstNo rest) (sym joined ∙ e)
+
+    words-asked : (eqb n (16 * inputsOf file) ≡ true) × (firstNo (lastQuestion file) ≡ 0)
+    words-asked = asked (eqb n (16 * inputsOf file)) 11 (lastQuestion file) (λ z. omega arith) (both .1)
+
+    each-is : each ≡ inputsOf file
+    each-is = list-exact n (inputsOf file) (file-head (both .0) .inputs-most) (eqb-true n (16 * inputsOf file) (words-asked .0))
+
+    fit : fits (frames (circuitOf file)) ≡ true
+    fit = asked (fits (frames (circuitOf file))) 13 [] (λ z. omega arith) (words-asked .1) .0
+
+    lines-fit : (before after : List ℕ) → length (lines (circuitOf file) before after) ≤ bufferLength
+    lines-fit before after =
+        let h = file-head (both .0) in
+        omega (
+          arith,
+          lines-length (circuitOf file) before after,
+          all-words (circuitOf file) before after,
+          fits-total (frames (circuitOf file)) fit,
+          h .inputs-most,
+          h .gates-most,
+          circuit-inputs file,
+          gates-length file,
+        )
+
+  answer-yes : firstNo (questions file part) ≡ 0 → answerText file part ≡ lines (circuitOf file) (beforeWords file part) (afterWords file part)
+  unfolding answerText
+  answer-yes e = rw (eq-eqb (firstNo (questions file part)) 0 e) refl
+
+  answer-no : (firstNo (questions file part) ≡ 0 → ⊥) → answerText file part ≡ refusal (firstNo (questions file part))
+  unfolding answerText
+  answer-no e = rw (ne-eqb (firstNo (questions file part)) 0 e) refl
+
+  -- Run's answer to the lists is the answer
+  module _ (a : Areas) (suit : engine.areasSuit a ≡ true) {before after : List ℕ} (b : before ≡ wordsFrom part 0 each) (f : after ≡ wordsFrom part each each) where
+    number-is : firstNo (engine.questions file a (length before) (length after)) ≡ firstNo (questions file part)
+    number-is =
+        ap₂ (λ (k l : ℕ). firstNo (engine.questions file a k l)) (ap length b ∙ words-length part 0 each) (ap length f ∙ words-length part each each)
+        ∙ same-number a suit
+
+    yes : firstNo (questions file part) ≡ 0 → runText file a before after ≡ answerText file part
+    yes e =
+        text-yes file before after a (number-is ∙ e)
+        ∙ ap₂ (lines (circuitOf file)) (b ∙ ap (wordsFrom part 0) (each-is e)) (f ∙ ap (λ (k : ℕ). wordsFrom part k k) (each-is e))
+        ∙ sym (answer-yes e)
+
+    no : (firstNo (questions file part) ≡ 0 → ⊥) → runText file a before after ≡ answerText file part
+    no e = text-no file before after a (λ z. e (sym number-is ∙ z)) ∙ ap refusal number-is ∙ sym (answer-no e)
+
+    pub answer-is : runText file a before after ≡ answerText file part
+    answer-is = ⊎-elim yes no (zero-or (firstNo (questions file part)))
+
+  pub answer-fits : length (answerText file part) ≤ bufferLength
+  answer-fits =
+      ⊎-elim (λ e. rw (answer-yes e) (lines-fit e (beforeWords file part) (afterWords file part)))
+      (λ e. rw (answer-no e) (omega (arith, refusal-length (firstNo (questions file part))))) (zero-or (firstNo (questions file part)))

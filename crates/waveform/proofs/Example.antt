@@ -1,0 +1,25 @@
+-- The example of document 01: the checker computes what is printed, and it is the printed text.
+-- Assumes nothing.
+use mathlib.Core.Path.{refl}
+use mathlib.Core.List.{flatten, flatMap, zipWith}
+use Rattle.lists.specs.Ladder.{firstNo}
+use Rattle.lists.specs.Tables.{tabulateFrom, allBelow}
+use Rattle.method.specs.Kinds.{gateFn, takes}
+use Rattle.method.specs.Times.{gateTimes}
+use Rattle.method.specs.Frames.{framesWith, gateFrames, frames}
+use Rattle.method.specs.Traces.{rawValue, gateTrace, traces}
+use Rattle.method.specs.Words.{lane}
+use Rattle.circuit.specs.File.{numberAt, faninsOf, kindOf, gateOf, circuitOf}
+use Rattle.circuit.specs.Limits.{delaysSuit}
+use Rattle.circuit.specs.Questions as reader
+use Rattle.planner.specs.Questions.{fits}
+use Rattle.waveform.specs.Words.{wordAt}
+use Rattle.waveform.specs.Input.{whole, filePart, wordPart, wordsFrom, questions}
+use Rattle.waveform.specs.Text.{digitAt, decimal}
+use Rattle.waveform.specs.Lines.{frameText, line, lines}
+use Rattle.waveform.specs.Wave.{answerText, textOf}
+use Rattle.waveform.specs.Example.{exampleInput, exampleText, Shown}
+
+pub shown : Shown
+unfolding exampleInput exampleText textOf answerText whole filePart wordPart questions wordsFrom wordAt numberAt firstNo reader.questions reader.headQuestions reader.fills reader.gateQuestions reader.lengthSuits delaysSuit takes kindOf allBelow faninsOf gateOf circuitOf fits flatten tabulateFrom flatMap zipWith frames gateFn gateTimes framesWith gateFrames rawValue gateTrace traces lane lines line frameText decimal digitAt
+shown = refl

@@ -1,0 +1,85 @@
+-- How long a text can be: a number has at most five digits, a frame at most eight bytes, a line at most six more.
+-- `answer-fits` in Answering puts in the limits of an accepted circuit.
+-- Assumes nothing.
+use Prim.Native.Nat.{ℕ, zero, suc, _+_, _*_, _/_, _%_, _≤_}
+use mathlib.Core.Path.{_≡_, ap, _∙_}
+use mathlib.Core.Bool.{Bool, true, false, cond}
+use mathlib.Core.List.{List, [], _∷_, _++_, flatten, zipWith}
+use native.Mathlib.Omega.{arith}
+use lib.ListN.{length, length-append}
+use lib.Dec.{leb}
+use Rattle.lists.specs.Tables.{tabulate, tabulateFrom}
+use Rattle.lists.proofs.Flat.{flat-next}
+use Rattle.lists.proofs.Tabled.{from-length}
+use Rattle.method.specs.Circuit.{Circuit}
+use Rattle.method.specs.Frames.{framesAt}
+use Rattle.method.specs.Packed.{packedWord, packedValues}
+use Rattle.method.specs.Traces.{traceAt}
+use Rattle.method.specs.Packed.{laneOf}
+use Rattle.engine.specs.Values.{netCount, allValues}
+use Rattle.waveform.specs.Text.{glyph, digitAt, decimal, newline, equals, refusal}
+use Rattle.waveform.specs.Lines.{frameText, line, netLine, lines}
+
+both : (xs ys : List ℕ) {m n : ℕ} → length xs ≤ m → length ys ≤ n → length (xs ++ ys) ≤ m + n
+both xs ys h l = omega (arith, length-append xs ys, h, l)
+
+digit-length : (power n : ℕ) → length (digitAt power n) ≤ 1
+unfolding digitAt
+digit-length power n = go (leb power n) (glyph (n / power % 10))
+  where
+    go : (b : Bool) (x : ℕ) → length (cond b (x ∷ []) []) ≤ 1
+    go true x = omega arith
+    go false x = omega arith
+
+decimal-length : (n : ℕ) → length (decimal n) ≤ 5
+unfolding decimal
+decimal-length n =
+    let one : length (glyph (n % 10) ∷ []) ≤ 1 = omega arith in
+    both (digitAt 10000 n) _ (digit-length 10000 n) (both (digitAt 1000 n) _ (digit-length 1000 n) (both (digitAt 100 n) _ (digit-length 100 n) (both (digitAt 10 n) _ (digit-length 10 n) one)))
+
+pub refusal-length : (n : ℕ) → length (refusal n) ≤ 14
+unfolding refusal
+refusal-length n = omega (arith, length-append (decimal n) (newline ∷ []), decimal-length n)
+
+frame-length : (time : ℕ) (level : Bool) → length (frameText time level) ≤ 8
+unfolding frameText
+frame-length time level = omega (arith, length-append (decimal time) (equals ∷ glyph (cond level 1 0) ∷ []), decimal-length time)
+
+frames-length : (times : List ℕ) (levels : List Bool) → length (flatten (zipWith frameText times levels)) ≤ 8 * length times
+unfolding flatten zipWith
+frames-length [] levels = omega arith
+frames-length (t ∷ times) [] = omega arith
+frames-length (t ∷ times) (l ∷ levels) = omega (arith, length-append (frameText t l) (flatten (zipWith frameText times levels)), frame-length t l, frames-length times levels)
+
+line-length : (net : ℕ) (times : List ℕ) (levels : List Bool) → length (line net times levels) ≤ 6 + 8 * length times
+unfolding line
+line-length net times levels =
+    let row = flatten (zipWith frameText times levels) in
+    omega (arith, length-append (decimal net) (row ++ newline ∷ []), length-append row (newline ∷ []), decimal-length net, frames-length times levels)
+
+module _ (c : Circuit) (before after : List ℕ) where
+  values-length : (n : ℕ) → length (packedValues c before after n) ≡ length (framesAt c n .times)
+  unfolding packedValues
+  values-length n = from-length (length (framesAt c n .times)) 0 (packedWord c before after n)
+
+  none : length (flatten (tabulate 0 (netLine c before after))) ≤ 6 * 0 + 8 * length (flatten (tabulate 0 (packedValues c before after)))
+  unfolding tabulateFrom flatten
+  none = omega arith
+
+  some-length : (n : ℕ) → length (flatten (tabulate n (netLine c before after))) ≤ 6 * n + 8 * length (flatten (tabulate n (packedValues c before after)))
+  some-length zero = none
+  some-length (suc n) =
+      let f = netLine c before after in
+      let g = packedValues c before after in
+      omega (
+        arith,
+        ap length (flat-next f n) ∙ length-append (flatten (tabulate n f)) (f n),
+        ap length (flat-next g n) ∙ length-append (flatten (tabulate n g)) (g n),
+        line-length n (framesAt c n .times) (traceAt c (laneOf 0 before after) n .values),
+        values-length n,
+        some-length n,
+      )
+
+  pub lines-length : length (lines c before after) ≤ 6 * netCount c + 8 * length (allValues c before after)
+  unfolding lines allValues
+  lines-length = some-length (netCount c)

@@ -1,0 +1,111 @@
+-- Lines as they are read off the areas: written frame by frame and net by net; and after an accepted Run they are the
+-- lines of the circuit.
+-- Assumes nothing.
+use Prim.Native.Nat.{ℕ, suc, _+_, _<_}
+use mathlib.Core.Path.{_≡_, refl, sym, ap, ap₂, _∙_}
+use mathlib.Core.Bool.{Bool, false}
+use mathlib.Core.List.{List, [], _∷_, flatten, map, zipWith}
+use native.Mathlib.Omega.{arith}
+use native.Mathlib.Nat.{zero-add, add-zero}
+use lib.ListN.{length, getD}
+use Rattle.lists.specs.Tables.{tabulateFrom}
+use Rattle.lists.proofs.Tabled.{from-ext}
+use Rattle.method.specs.Circuit.{Circuit}
+use Rattle.method.specs.Frames.{framesAt}
+use Rattle.method.specs.Traces.{traceAt}
+use Rattle.method.specs.Words.{lane}
+use Rattle.method.specs.Packed.{laneOf}
+use Rattle.method.proofs.Bits.{getD-lane}
+use Rattle.method.proofs.Tracing.{value-each}
+use Rattle.method.proofs.Lanes.{in-lanes}
+use Rattle.circuit.specs.File.{circuitOf}
+use Rattle.planner.specs.Layout.{firstFrame, frameCount, partOf}
+use Rattle.planner.proofs.Spans.{part-entry}
+use Rattle.engine.specs.Areas.{Areas}
+use Rattle.engine.specs.Values.{netCount}
+use Rattle.engine.specs.After.{After}
+use Rattle.waveform.specs.Text.{newline, decimal}
+use Rattle.waveform.specs.Lines.{frameText, line, netLine, lines}
+use Rattle.waveform.specs.Steps.{Wrote, areaFrame, areaFrames, areaLine, areaLines}
+use Rattle.waveform.proofs.Putting.{wrote-nothing, wrote-both, wrote-next}
+
+-- ---- written
+
+module _ (times values : List ℕ) (first : ℕ) where
+  pub frames-none : (out : List ℕ) (at : ℕ) → Wrote out at (areaFrames times values first 0) out at
+  unfolding areaFrames flatten tabulateFrom
+  frames-none out at = wrote-nothing out at
+
+  -- one frame more
+  pub frames-more : {a b c : List ℕ} {i j k : ℕ} (n : ℕ) → Wrote a i (areaFrames times values first n) b j → {place time word : ℕ} {level : Bool} → place ≡ first + n → time ≡ getD times place 0 → word ≡ getD values place 0
+      → level ≡ lane 0 word → Wrote b j (frameText time level) c k → Wrote a i (areaFrames times values first (n + 1)) c k
+  unfolding areaFrames
+  frames-more {a} {b} {c} {i} {j} {k} n done {place} {time} {word} {level} p t w l piece =
+      wrote-next (λ (m : ℕ). areaFrame times values (first + m)) n done (rw (← p, ← t, ← w, ← l) piece)
+
+module _ (d t v : List ℕ) where
+  pub line-put : {o a b c : List ℕ} {at i j k : ℕ} (net : ℕ) {first frames : ℕ} → first ≡ firstFrame d net → frames ≡ frameCount d net → Wrote o at (decimal net) a i
+      → Wrote a i (areaFrames t v first frames) b j → Wrote b j (newline ∷ []) c k → Wrote o at (areaLine d t v net) c k
+  unfolding areaLine
+  line-put net {first} {frames} p q x y z = rw (← p, ← q) (wrote-both x (wrote-both y z))
+
+  pub lines-none : (out : List ℕ) (at : ℕ) → Wrote out at (areaLines d t v 0) out at
+  unfolding areaLines flatten tabulateFrom
+  lines-none out at = wrote-nothing out at
+
+  pub lines-more : {a b c : List ℕ} {i j k : ℕ} (n : ℕ) → Wrote a i (areaLines d t v n) b j → Wrote b j (areaLine d t v n) c k → Wrote a i (areaLines d t v (n + 1)) c k
+  unfolding areaLines
+  lines-more n done piece = wrote-next (areaLine d t v) n done piece
+
+-- ---- after an accepted Run
+
+-- two lists joined entry by entry, as a table
+zip-from : (f : ℕ → Bool → List ℕ) (xs : List ℕ) (ys : List Bool) → length ys ≡ length xs → (j : ℕ) (h : ℕ → List ℕ)
+    → ((k : ℕ) → k < length xs → h (j + k) ≡ f (getD xs k 0) (getD ys k false)) → tabulateFrom (length xs) j h ≡ zipWith f xs ys
+unfolding tabulateFrom zipWith
+zip-from f [] [] e j h each = refl
+zip-from f [] (y ∷ ys) e j h each = absurd (omega (arith, e))
+zip-from f (x ∷ xs) [] e j h each = absurd (omega (arith, e))
+zip-from f (x ∷ xs) (y ∷ ys) e j h each =
+    ap₂ (λ (z : List ℕ) (zs : List (List ℕ)). z ∷ zs)
+    (ap h (sym (add-zero j)) ∙ each 0 (omega arith))
+    (zip-from f xs ys (omega (arith, e)) (suc j) h (λ k l. ap h (omega arith) ∙ each (suc k) (omega (arith, l))))
+
+module _ (file before after : List ℕ) {a : Areas} (h : After file before after a) where
+  abbrev c : Circuit
+  c = circuitOf file
+
+  abbrev d : List ℕ
+  d = a .plan .directory
+
+  module _ (n : ℕ) (l : n < netCount c) where
+    abbrev times : List ℕ
+    times = framesAt c n .times
+
+    abbrev levels : List Bool
+    levels = traceAt c (laneOf 0 before after) n .values
+
+    own : map (lane 0) (partOf d (a .values) n) ≡ levels
+    own = ap (map (lane 0)) (h .values-are n l) ∙ in-lanes .own-values c before after 0 (omega arith) n
+
+    frame-is : (k : ℕ) → k < length times → areaFrame (a .plan .times) (a .values) (firstFrame d n + k) ≡ frameText (getD times k 0) (getD levels k false)
+    frame-is k m =
+        let few : k < frameCount d n = omega (arith, h .count-is n l, m) in
+        ap₂ frameText
+        (part-entry d (a .plan .times) n k few ∙ ap (λ (xs : List ℕ). getD xs k 0) (h .times-are n l))
+        (ap (lane 0) (part-entry d (a .values) n k few) ∙ getD-lane 0 (partOf d (a .values) n) k ∙ ap (λ (bs : List Bool). getD bs k false) own)
+
+    frames-are : areaFrames (a .plan .times) (a .values) (firstFrame d n) (frameCount d n) ≡ flatten (zipWith frameText times levels)
+    unfolding areaFrames
+    frames-are =
+        rw (h .count-is n l)
+        (ap flatten (zip-from frameText times levels (value-each c (laneOf 0 before after) n) 0 (λ (k : ℕ). areaFrame (a .plan .times) (a .values) (firstFrame d n + k)) (λ k m. rw (zero-add k) (frame-is k m))))
+
+    line-is : areaLine d (a .plan .times) (a .values) n ≡ netLine c before after n
+    unfolding areaLine line
+    line-is = rw frames-are refl
+
+  pub lines-are : areaLines (a .plan .directory) (a .plan .times) (a .values) (netCount (circuitOf file)) ≡ lines (circuitOf file) before after
+  unfolding areaLines lines
+  lines-are =
+      ap flatten (from-ext (netCount c) 0 (areaLine d (a .plan .times) (a .values)) (netLine c before after) (λ k _ l. line-is k (omega (arith, l))))

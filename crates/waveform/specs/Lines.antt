@@ -1,0 +1,27 @@
+-- What an accepted input prints: for lane 0 a line a net.
+use Prim.Native.Nat.{ℕ}
+use mathlib.Core.Bool.{Bool, cond}
+use mathlib.Core.List.{List, [], _∷_, _++_, flatten, zipWith}
+use Rattle.lists.specs.Tables.{tabulate}
+use Rattle.method.specs.Circuit.{Circuit}
+use Rattle.method.specs.Frames.{framesAt}
+use Rattle.method.specs.Traces.{traceAt}
+use Rattle.method.specs.Packed.{laneOf}
+use Rattle.engine.specs.Values.{netCount}
+use Rattle.waveform.specs.Text.{blank, newline, equals, glyph, decimal}
+
+-- a frame: a blank and time=level
+unfoldable pub frameText : ℕ → Bool → List ℕ
+frameText time level = blank ∷ (decimal time ++ equals ∷ glyph (cond level 1 0) ∷ [])
+
+-- a line: the net's number, then its frames, whose times and levels are these, one level a frame, and a newline
+unfoldable pub line : ℕ → List ℕ → List Bool → List ℕ
+line net times levels = decimal net ++ (flatten (zipWith frameText times levels) ++ newline ∷ [])
+
+-- net n's line: the times of its frames, and the values of lane 0's own trace
+abbrev pub netLine : Circuit → List ℕ → List ℕ → ℕ → List ℕ
+netLine c before after n = line n (framesAt c n .times) (traceAt c (laneOf 0 before after) n .values)
+
+-- all nets of a circuit, run for these words
+unfoldable pub lines : Circuit → List ℕ → List ℕ → List ℕ
+lines c before after = flatten (tabulate (netCount c) (netLine c before after))

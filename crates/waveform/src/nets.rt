@@ -1,0 +1,151 @@
+// The lines of the nets, and the answer to a circuit with its words.
+ghost use mathlib.Core.Path.{_≡_};
+ghost use Prim.Native.Nat.{_+_, _≤_};
+ghost use lib.ListN.{length};
+ghost use Rattle.circuit.specs.File.{inputsOf, gatesOf};
+ghost use Rattle.circuit.specs.Limits.{mostInputs, mostGates};
+ghost use Rattle.engine.specs.Areas.{areas};
+ghost use Rattle.waveform.specs.Wave.{answerText};
+ghost use Rattle.waveform.specs.Steps.{Wrote, listLength, areaFrames, areaLine, areaLines, runText};
+use crate::input::list_length;
+use crate::input::take_words;
+use crate::text::put_frame;
+use crate::text::put_newline;
+use crate::text::put_number;
+use crate::text::put_refused;
+use method::Net;
+use method::Time;
+use planner::Planning;
+
+// The frames of a net, which start at place `first` of the areas, in lane 0.
+fn put_frames(
+    output: &mut [u8],
+    at: usize,
+    times: &[u16],
+    values: &[u64],
+    first: u16,
+    frames: u16,
+) -> usize
+    ensures { λ r. ⌜ Wrote (now (output .entry)) at (areaFrames (now (times .entry)) (now (values .entry)) first frames) (now (output .exit)) r ⌝ }
+{
+    let mut end = at;
+    let mut k: u16 = 0;
+    while k < frames {
+        let place = first as usize + k as usize;
+        let level = words::bit_of(lists::word_at(values, place), 0);
+        end = put_frame(output, end, Time(lists::entry_at(times, place)), level);
+        k += 1;
+    }
+    end
+}
+
+// A net's line.
+fn put_net(
+    output: &mut [u8],
+    at: usize,
+    directory: &[u16],
+    times: &[u16],
+    values: &[u64],
+    net: Net,
+) -> usize
+    ensures { λ r. ⌜ Wrote (now (output .entry)) at (areaLine (now (directory .entry)) (now (times .entry)) (now (values .entry)) (net .0)) (now (output .exit)) r ⌝ }
+{
+    let pair = 2 * (net.0 as usize);
+    let first = lists::entry_at(directory, pair);
+    let frames = lists::entry_at(directory, pair + 1);
+    let a = put_number(output, at, net.0);
+    let b = put_frames(output, a, times, values, first, frames);
+    put_newline(output, b)
+}
+
+// The lines of the first nets, from the buffer's start on.
+fn put_nets(output: &mut [u8], directory: &[u16], times: &[u16], values: &[u64], nets: u16) -> usize
+    ensures { λ r. ⌜ Wrote (now (output .entry)) 0 (areaLines (now (directory .entry)) (now (times .entry)) (now (values .entry)) nets) (now (output .exit)) r ⌝ }
+{
+    let mut end = 0;
+    let mut net: u16 = 0;
+    while net < nets {
+        end = put_net(output, end, directory, times, values, Net(net));
+        net += 1;
+    }
+    end
+}
+
+// Runs the circuit of the file in these areas, and writes the lines of its nets, or the refusal.
+fn put_run(
+    file: &[u8],
+    directory: &mut [u16],
+    times: &mut [u16],
+    inertial: &mut [u16],
+    fanins: &mut [u16],
+    values: &mut [u64],
+    before: &[u64],
+    after: &[u64],
+    output: &mut [u8],
+) -> usize
+    ensures { λ r. ⌜ Wrote (now (output .entry)) 0 (runText (now (file .entry)) (areas (now (directory .entry)) (now (times .entry)) (now (inertial .entry)) (now (fanins .entry)) (now (values .entry))) (now (before .entry)) (now (after .entry))) (now (output .exit)) r ⌝ }
+{
+    match engine::run(
+        file,
+        directory,
+        times,
+        inertial,
+        fanins,
+        values,
+        before,
+        after,
+    ) {
+        Planning::Refused(number) => put_refused(output, number),
+        Planning::Planned(_) => put_nets(output, directory, times, values, net_count(file)),
+    }
+}
+
+// How many nets the circuit of an accepted file has.
+fn net_count(file: &[u8]) -> u16
+    requires { ⌜ (inputsOf (now file) ≤ mostInputs) × (gatesOf (now file) ≤ mostGates) ⌝ }
+    ensures { λ r. ⌜ r ≡ inputsOf (now (file .entry)) + gatesOf (now (file .entry)) ⌝ }
+{
+    circuit::number_at(file, 0) + circuit::number_at(file, 2)
+}
+
+// Takes both lists from the word part, which has as many words for each as they have places, and writes what Run answers
+// to them.
+fn put_with_words(
+    file: &[u8],
+    part: &[u8],
+    before: &mut [u64],
+    after: &mut [u64],
+    output: &mut [u8],
+) -> usize
+    requires { ⌜ (length (now before) ≡ listLength (length (now part))) × (length (now after) ≡ listLength (length (now part))) ⌝ }
+    ensures { λ r. ⌜ Wrote (now (output .entry)) 0 (answerText (now (file .entry)) (now (part .entry))) (now (output .exit)) r ⌝ }
+{
+    let mut directory = [0u16; 320];
+    let mut times = [0u16; 2048];
+    let mut inertial = [0u16; 2048];
+    let mut fanins = [0u16; 16384];
+    let mut values = [0u64; 2048];
+    take_words(part, 0, before);
+    take_words(part, before.len(), after);
+    put_run(
+        file,
+        &mut directory,
+        &mut times,
+        &mut inertial,
+        &mut fanins,
+        &mut values,
+        before,
+        after,
+        output,
+    )
+}
+
+// The answer to a circuit file and its word part, from the buffer's start on.
+pub(crate) fn put_answer(file: &[u8], part: &[u8], output: &mut [u8]) -> usize
+    ensures { λ r. ⌜ Wrote (now (output .entry)) 0 (answerText (now (file .entry)) (now (part .entry))) (now (output .exit)) r ⌝ }
+{
+    let mut before = [0u64; 32];
+    let mut after = [0u64; 32];
+    let n = list_length(part);
+    put_with_words(file, part, &mut before[0..n], &mut after[0..n], output)
+}
