@@ -1,19 +1,22 @@
 #!/usr/bin/env python3
 """Writes the test program's input and what it must print: crates/cases/stdin and stdout.
 
-Each case is a circuit file whose reading is known by the way it is made: a circuit within the limits, or one fault put
-into its file, or two, where the earlier question wins. Nothing here reads a file back. What Plan must answer and leave is
-worked out below by document 01's rules, net by net, with sets and counts and none of the program's ways. What Run must
-leave in the values is worked out lane by lane with Bools, and compared with the time-by-time machine in some lanes of every
-case, at every time of every net. Run it from the repository's root; building and testing need none of it.
+The top of crates/cases/src/main.rt says what a case and its line are. What the reader must answer is known by the way a file
+is made: a circuit within the limits, or one fault put into its file, or more, of which the earliest counts. Nothing here
+reads a file back. What the calls must answer and leave is worked out by document 01's rules: Plan net by net, with sets and
+counts and none of the program's ways; Run lane by lane, with Bools, compared with the time-by-time machine in some lanes of
+every case at every time of every net; Mark time by time on the machine's levels. Run it from the repository's root; building
+and testing need none of it.
 """
+import functools
 import random
 
-cases = []  # (file, line)
+rng = random.Random(7)
+cases = []  # (kind, bytes, line)
 
 
 def two(n):
-    return bytes([n % 256, n // 256])
+    return n.to_bytes(2, "little")
 
 
 class Record(bytes):
@@ -36,8 +39,6 @@ def file_of(inputs, records, shift={}, lengths={}, tail=b""):
 
 # ---- Plan, by the rules
 
-LENGTHS, VALUES = (320, 2048, 2048, 16384), 2048
-
 
 def frames(inputs, records):
     """The frames of each net: times, inertial indices, fan-in rows."""
@@ -51,11 +52,11 @@ def frames(inputs, records):
     return nets
 
 
-def plan(nets):
-    """What Plan prints of an accepted file with these frames: the totals or 13, and the areas."""
+def planned(nets):
+    """What Plan answers where it accepts these frames, and the four areas without the zeros behind; nothing for 13."""
     total = sum(len(times) for times, _, _ in nets)
     if any(len(times) > 64 for times, _, _ in nets) or total > 2048:
-        return "refused 13", [[0] * n for n in LENGTHS]
+        return None
     directory, at = [], 0
     for times, _, _ in nets:
         directory += [at, len(times)]
@@ -66,23 +67,10 @@ def plan(nets):
         [i for _, inertial, _ in nets for i in inertial],
         [k for _, _, rows in nets for row in rows for k in row],
     ]
-    last = max(t for times, _, _ in nets for t in times)
-    answer = f"planned {total} {len(areas[3])} {last}"
-    return answer, [a + [0] * (n - len(a)) for a, n in zip(areas, LENGTHS)]
+    return f"planned {total} {len(areas[3])} {max(areas[1])}", areas
 
 
-# ---- Run, Level and Count, each lane by itself
-
-
-def words_from(number, count):
-    """The words that the program makes from a case's number."""
-    word, words = number * 2654435761 ^ 88172645463325252, []
-    for _ in range(count):
-        word ^= word << 13 & 2**64 - 1
-        word ^= word >> 7
-        word ^= word << 17 & 2**64 - 1
-        words.append(word)
-    return words
+# ---- Run, each lane by itself, and the machine
 
 
 def outputs(r):
@@ -122,88 +110,247 @@ def machine(records, pairs, until):
     return [wave[:until + 1] for wave in waves]
 
 
+class Run:
+    """An accepted circuit with words: the values net by net, and the machine's waves lane by lane."""
+
+    def __init__(self, inputs, records, before, after):
+        self.records, self.before, self.after, self.waves = records, before, after, {}
+        self.nets = frames(inputs, records)
+        self.times = [times for times, _, _ in self.nets]
+        self.plan = planned(self.nets)
+        self.last = max(t for times in self.times for t in times)
+        if self.plan and len(before) == len(after) == inputs:
+            self.lanes = [evaluate(self.nets, records, self.pairs(lane)) for lane in range(64)]
+            packed = zip(*self.lanes)
+            self.values = [[sum(level << lane for lane, level in enumerate(frame)) for frame in zip(*net)] for net in packed]
+
+    def pairs(self, lane):
+        return [(b >> lane & 1 == 1, a >> lane & 1 == 1) for b, a in zip(self.before, self.after)]
+
+    def wave(self, net, lane):
+        """The levels of a net in a lane by the machine, until after the last potential time. Every net has to agree."""
+        if lane not in self.waves:
+            self.waves[lane] = machine(self.records, self.pairs(lane), self.last + 1)
+            for times, levels, wave in zip(self.times, self.lanes[lane], self.waves[lane]):
+                assert wave == [level_at(times, levels, t) for t in range(self.last + 2)]
+        return self.waves[lane][net]
+
+
+# ---- Level, Count and Mark
+
+
 def level_at(times, levels, time):
     return levels[max(k for k, t in enumerate(times) if t <= time)]
 
 
-def run(nets, records, before, after, checked):
-    """What Run prints of an accepted file, the areas with the values in quarters, and the values net by net. In the lanes to
-    be checked the machine has to agree at every time."""
-    answer, areas = plan(nets)
-    if answer == "refused 13":
-        return answer, areas + [[0] * 4 * VALUES], []
-    last, lanes = max(areas[1]), []
-    for lane in range(64):
-        pairs = [(b >> lane & 1 == 1, a >> lane & 1 == 1) for b, a in zip(before, after)]
-        lanes.append(evaluate(nets, records, pairs))
-        if lane in checked:
-            for (times, _, _), levels, wave in zip(nets, lanes[-1], machine(records, pairs, last + 1)):
-                assert wave == [level_at(times, levels, t) for t in range(last + 2)]
-    values = [[sum(level << lane for lane, level in enumerate(frame)) for frame in zip(*net)] for net in zip(*lanes)]
-    quarters = [word >> shift & 65535 for net in values for word in net for shift in (0, 16, 32, 48)]
-    return answer, areas + [quarters + [0] * (4 * VALUES - len(quarters))], values
+def look_fault(times, values, lane):
+    return (14 if len(times) != len(values) or len(times) not in range(1, 65) else
+            15 if times != sorted({0, *times}) else 16 if lane > 63 else 0)
 
 
-def look(times, values, lane, time):
-    """What Level and Count print."""
-    no = (14 if len(times) != len(values) or len(times) not in range(1, 65) else
-          15 if times != sorted({0, *times}) else 16 if lane > 63 else 0)
-    if no:
-        return f"refused {no}", f"refused {no}"
-    levels = "".join(str(value >> lane & 1) for value in values)
-    return level_at(times, levels, time), str(levels.count("01") + levels.count("10"))
+def level_of(times, values, lane, time):
+    no = look_fault(times, values, lane)
+    return f"refused {no}" if no else str(level_at(times, values, time) >> lane & 1)
 
 
-def looks(times, values):
-    """What is printed of a net: in three lanes six levels and the count."""
-    middle, last = times[len(times) // 2], times[-1]
-    seen = [[look(times, values, lane, t) for t in (0, middle - 1, middle, last - 1, last, 65535)] for lane in (0, 31, 63)]
-    return "".join(f" {''.join(level for level, _ in lane)} {lane[0][1]}" for lane in seen)
+def count_of(times, values, lane):
+    no, bits = look_fault(times, values, lane), "".join(str(value >> lane & 1) for value in values)
+    return f"refused {no}" if no else str(bits.count("01") + bits.count("10"))
+
+
+def suits(expectation, nets):
+    net, lane, start, end, expected = expectation
+    return net < nets and lane < 64 and start <= end and expected < 2
+
+
+def verdict(run, expectations):
+    """The first expectation with a time at which the level is another, and the frame that holds the first such time."""
+    for position, (net, lane, start, end, expected) in enumerate(expectations):
+        wave = run.wave(net, lane)
+        for t in range(start, end + 1):
+            if wave[min(t, run.last + 1)] != (expected == 1):
+                return f"unmet {position} {sum(s <= t for s in run.times[net]) - 1}"
+    return "all met"
+
+
+# ---- sums of areas
+
+RIGHT = (320, 2048, 2048, 16384, 2048)
+
+
+def summed(numbers, s=0):
+    for x in numbers:
+        s = (17 * s + x + 1) % 65521
+    return s
+
+
+@functools.lru_cache(None)
+def rubbish_sum(length, rubbish, quarters):
+    return summed((rubbish + 257 * k) % 65536 for k in range(length) for _ in range(quarters))
+
+
+def zeros(s, n):
+    """The sum with n zeros more: n times 17 s + 1."""
+    power = pow(17, n, 65521)
+    return (s * power + (power - 1) * pow(16, -1, 65521)) % 65521
+
+
+def filled(lengths, rubbish):
+    return [rubbish_sum(n, rubbish, 4 if k == 4 else 1) for k, n in enumerate(lengths)]
+
+
+def left(areas):
+    """The sums of areas of the right lengths with these contents, and zeros behind."""
+    sizes = [n * (4 if k == 4 else 1) for k, n in enumerate(RIGHT)]
+    return [zeros(summed(area), n - len(area)) for area, n in zip(areas, sizes)]
+
+
+CLEARED = left([[]] * 5)
 
 
 # ---- the lines
 
 
-def sums(areas):
+def planned_part(run, lengths, untouched):
+    """What Plan answers and leaves. It is not handed the values."""
+    if lengths[:4] != RIGHT[:4]:
+        return "refused 10", untouched
+    if not run.plan:
+        return "refused 13", CLEARED[:4] + untouched[4:]
+    answer, areas = run.plan
+    return answer, left(areas) + untouched[4:]
+
+
+def run_part(run, fault, untouched):
+    """What Run answers and leaves, with the number of its first "no"."""
+    if fault:
+        return f"refused {fault}", CLEARED if fault == 13 else untouched
+    answer, areas = run.plan
+    quarters = [word >> shift & 65535 for net in run.values for word in net for shift in (0, 16, 32, 48)]
+    return answer, left(areas + [quarters])
+
+
+def lanes_seen(times, values, time):
+    """What Level and Count see in all lanes."""
+    no = look_fault(times, values, 63)
+    if no:
+        return f"refused {no}"
+    return f"{level_at(times, values, time):016x} {summed(int(count_of(times, values, lane)) for lane in range(64))}"
+
+
+def answers(run, inputs, lengths, rubbish, net, lane, time, expectations):
+    """What is printed behind the reader's answer for an accepted file."""
+    untouched = filled(lengths, rubbish)
+    asked = 10 if lengths != RIGHT else 11 if [len(run.before), len(run.after)] != [inputs] * 2 else 0
+    fault = asked or (0 if run.plan else 13)
+    ran = seen = marked = run_part(run, fault, untouched)
+    looks = []
+    if not fault:
+        times, values = (run.times[net], run.values[net]) if net < len(run.nets) else ([], [])
+        looks = [lanes_seen(times, values, time)]
+        seen = level_of(times, values, lane, time), ran[1]
+    if not asked and not all(suits(e, inputs + len(run.records)) for e in expectations):
+        marked = "refused 12", untouched
+    elif not fault:
+        marked = verdict(run, expectations), ran[1]
+    parts = [planned_part(run, lengths, untouched), (str(asked), untouched), ran, seen, marked]
+    shown = [f"{answer} {' '.join(map(str, sums))}" for answer, sums in parts]
+    return shown[:3] + looks + shown[3:]
+
+
+def add(file, number, inputs, run, lengths=RIGHT, rubbish=None, net=0, lane=0, time=0, expectations=()):
+    """A case of kind `c`: the reader's number, or 0 with the inputs and the run of an accepted file."""
+    rubbish = rng.randrange(65536) if rubbish is None else rubbish
+    if number:
+        line = [f"refused {number}"] + [f"{no} {' '.join(map(str, filled(lengths, rubbish)))}"
+                                        for no in (f"refused {number}", number) + (f"refused {number}",) * 3]
+    else:
+        line = [f"accepted {inputs} {len(run.records)}"]
+        line += answers(run, inputs, lengths, rubbish, net, lane, time, expectations)
+    data = b"c" + len(file).to_bytes(4, "little") + b"".join(map(two, lengths)) + two(rubbish)
+    data += bytes([len(run.before), len(run.after)]) + two(net) + bytes([lane]) + two(time) + bytes([len(expectations)])
+    data += file
+    data += b"".join(word.to_bytes(8, "little") for word in run.before + run.after)
+    data += b"".join(two(n) + bytes([l]) + two(a) + two(b) + bytes([x]) for n, l, a, b, x in expectations)
+    cases.append(("c", data, "; ".join(line)))
+
+
+class Words:
+    """The words of a case whose file is refused."""
+
+    def __init__(self, before, after):
+        self.before, self.after = before, after
+
+
+@functools.lru_cache(None)
+def run_of(inputs, records, before, after):
+    return Run(inputs, list(records), list(before), list(after))
+
+
+def random_words(count):
+    return [rng.getrandbits(64) for _ in range(count)]
+
+
+def some_expectations(run, most, lanes):
+    """Most are met: a stretch of one level of some net, or a part of it."""
     out = []
-    for area in areas:
-        s = 0
-        for x in area:
-            s = (17 * s + x + 1) % 65521
-        out.append(str(s))
-    return " ".join(out)
+    for _ in range(rng.randint(0, most)):
+        net, lane = rng.randrange(len(run.nets)), rng.choice(lanes)
+        wave, start = run.wave(net, lane), rng.randrange(run.last + 2)
+        end = start
+        while end <= run.last and wave[end + 1] == wave[start]:
+            end += 1
+        if end == run.last + 1 and rng.random() < 0.5:
+            end = rng.choice([65535, run.last + rng.randint(1, 100)])
+        out.append((net, lane, start, max(start, end - rng.choice([0, 0, 1])), int(wave[start]) ^ (rng.random() < 0.08)))
+        if rng.random() < 0.05:
+            out[-1] = (net, lane, max(0, start - rng.randint(0, 9)), end, out[-1][4])
+    return out
 
 
-def untouched(lengths):
-    return [[7] * n for n in lengths[:4]] + [[7, 0, 0, 0] * n for n in lengths[4:]]
+def good(inputs, records, before=None, after=None, **more):
+    """An accepted file. What the case does not say is taken at random, looks mostly at the last nets."""
+    before, after = before or random_words(inputs), after or random_words(inputs)
+    run = run_of(inputs, tuple(records), tuple(before), tuple(after))
+    if run.plan and more.get("lengths", RIGHT) == RIGHT and len(before) == len(after) == inputs:
+        lanes = rng.sample(range(64), 2 if len(records) < 128 else 1)
+        run.wave(0, lanes[0])
+        more.setdefault("net", max(0, len(run.nets) - 1 - rng.choice([0, 0, 0, 1, 2])))
+        if "time" not in more:
+            more["time"] = max(0, rng.choice(run.times[more["net"]] + [run.last, 65535]) - rng.choice([0, 0, 1]))
+        more.setdefault("lane", rng.randrange(64))
+        if "expectations" not in more:
+            more["expectations"] = some_expectations(run, 12, lanes)
+    add(file_of(inputs, records), 0, inputs, run, **more)
 
 
-def good(inputs, records):
-    nets, turn = frames(inputs, records), len(cases)
-    words = words_from(turn, 2 * inputs)  # for the before list and the after list in turn
-    checked = range(turn % 8, 64, 8 if len(records) < 128 else 64)
-    answer, areas, values = run(nets, records, words[0::2], words[1::2], checked)
-    seen = ";" + looks(nets[-1][0], values[-1]) if values else ""
-    cases.append((file_of(inputs, records), f"accepted {inputs} {len(records)}; {answer} {sums(areas[:4])}; refused 10; "
-                  f"0 {answer} {sums(areas)}{seen}; refused 11; refused 11; refused 10"))
+def bad(data, number, **more):
+    """A refused file. Areas, lists and expectations are right or wrong as it comes: nothing of them is asked."""
+    more.setdefault("lengths", rng.choice([RIGHT, (320, 2048, 2048, 16384, 2047), (0, 0, 0, 0, 0)]))
+    more.setdefault("expectations", rng.choice([(), ((0, 0, 0, 0, 0),), ((65535, 64, 1, 0, 2),)]))
+    add(data, number, 0, Words(random_words(rng.randint(0, 2)), random_words(rng.randint(0, 2))), **more)
 
 
-def bad(data, number):
-    no, areas = f"refused {number}", untouched(LENGTHS + (VALUES,))
-    cases.append((data, f"{no}; {no} {sums(areas[:4])}; {no}; {number} {no} {sums(areas)}; {no}; {no}; {no}"))
+def look(times, values, lane, time):
+    """A case of kind `l`."""
+    data = b"l" + bytes([len(times), len(values), lane]) + two(time)
+    data += b"".join(map(two, times)) + b"".join(value.to_bytes(8, "little") for value in values)
+    cases.append(("l", data, f"{level_of(times, values, lane, time)}; {count_of(times, values, lane)}"))
 
 
-BUF, NOT, AND, OR, XOR, XNOR = 0, 1, 2, 4, 6, 7
+BUF, NOT, AND, NAND, OR, NOR, XOR, XNOR = range(8)
 buf = Record(BUF, 1, 0, [0])
 
-# questions 1 to 4
+
+# ---- the reader's questions: 1 to 4
+
 for n in range(4):
     bad((two(1) + two(0))[:n], 1)
-for i in (0, 33, 256, 65535):
+for i in (0, 33, 256, 65535):  # bench sheet, Others: I = 0 and 33 give 2
     bad(file_of(i, []), 2)
 for i in (1, 2, 31, 32):
     good(i, [])
-for g in (129, 256, 65535):
+for g in (129, 256, 65535):  # bench sheet, Others: G = 129 gives 3
     bad(two(1) + two(g) + bytes(4 * 129), 3)
 bad(two(0) + two(129), 2)
 bad(two(1) + two(129), 3)
@@ -242,10 +389,12 @@ for kind in range(8):
             bad(file_of(1, [gate + b"\0"]), 8)
 for kind in (8, 9, 128, 255):
     bad(file_of(1, [Record(kind, 1, 0, [0])]), 6)
+# bench sheet, Others: d = 0 gives 7
 for d, di in ((0, 0), (64, 0), (255, 0), (1, 64), (63, 255), (0, 64)):
     bad(file_of(1, [Record(BUF, d, di, [0])]), 7)
 for d, di in ((1, 0), (63, 0), (1, 63), (63, 63)):
     good(1, [Record(BUF, d, di, [0])])
+# bench sheet, Others: a gate that reads its own net gives 9
 for own, fanin in ((1, 1), (1, 2), (1, 65535), (32, 32), (32, 256)):
     bad(file_of(own, [Record(NOT, 1, 0, [fanin])]), 9)
     bad(file_of(own, [Record(XNOR, 1, 0, [0, fanin, 0])]), 9)
@@ -253,7 +402,7 @@ good(32, [Record(NOT, 1, 0, [31])])
 good(1, [buf, Record(AND, 1, 0, [1, 1])])
 bad(file_of(1, [buf, Record(AND, 1, 0, [1, 2])]), 9)
 
-# the order: an earlier question or an earlier gate wins
+# several faults: an earlier question or an earlier gate wins
 bad(file_of(1, [Record(8, 0, 64, [1])]), 6)
 bad(file_of(1, [Record(AND, 0, 0, [1])]), 7)
 bad(file_of(1, [Record(AND, 1, 0, [1])]), 8)
@@ -261,7 +410,7 @@ bad(file_of(1, [Record(NOT, 1, 0, [1]), Record(8, 0, 0, [0])]), 9)
 bad(file_of(1, [Record(8, 1, 0, [0])], tail=b"\0"), 5)
 bad(file_of(1, [buf, Record(BUF, 64, 0, [9]), Record(8, 1, 0, [0])]), 7)
 
-# bench sheet: fan-in times {0,3,4} and {0,2,6}, d = 3, di = 2 (rows A to C)
+# ---- the bench sheet's rows: fan-in times {0,3,4} and {0,2,6}, d = 3, di = 2 (rows A to C)
 good(1, [Record(BUF, 1, 0, [0]), Record(BUF, 2, 0, [0]), Record(BUF, 3, 0, [0]), Record(BUF, 4, 0, [0]),
          Record(OR, 1, 0, [1, 2]), Record(OR, 1, 0, [0, 4]), Record(XNOR, 3, 2, [5, 6])])
 
@@ -292,6 +441,9 @@ bench(wave_circuit(2), [0, 2, 4], [0, 0, 0])  # I
 bench([step(2), Record(XOR, 1, 0, [1, 1, 1])], [0, 3], [0, 0])  # J
 
 
+# ---- lively nets
+
+
 def pulses(di):
     """A net with 48 changes where its input changes: pulses of 1 to 3 times, 1 to 3 apart, of which a delay leaves some."""
     gates, at = [], 2
@@ -306,7 +458,7 @@ for di in range(5):
     good(1, pulses(di))
 
 # every kind of gate on 2 to 8 nets
-for _ in range(4):
+for _ in range(3):
     good(8, [Record(kind, 1, 0, list(range(m))) for kind in range(AND, XNOR + 1) for m in range(2, 9)])
 
 # a net twice in a list, and the last net not the latest
@@ -316,7 +468,7 @@ good(1, [buf, Record(AND, 5, 9, [0, 1, 0, 1]), Record(XNOR, 1, 63, [0, 0])])
 # ---- question 13
 
 
-def count(inputs, gates):
+def counts(inputs, gates):
     """How many frames each net has."""
     return [len(times) for times, _, _ in frames(inputs, gates)]
 
@@ -327,7 +479,7 @@ def comb(n):
     for d in (1, 9, 17, 25, 33, 41, 49, 49 + n - 57):
         gates.append(Record(NOT, d, 0, [9]))
     gates.append(Record(AND, 7, 5, list(range(10, 18))))
-    assert count(1, gates)[-1] == n
+    assert counts(1, gates)[-1] == n
     return gates
 
 
@@ -335,17 +487,17 @@ def copies(inputs, total, fanins):
     """So many frames in all: a comb with a net of 64 and nets of 9, and copies of those and of an input. A copy of the net
     of 64 names it so many times in its fan-in list."""
     gates = [Record(g.kind, g.d, g.di, [f + inputs - 1 if f else 0 for f in g.fanins]) for g in comb(64)]
-    counts = count(inputs, gates)
-    rest = total - sum(counts)
+    have = counts(inputs, gates)
+    rest = total - sum(have)
     big, nine = rest // 64 - 1, rest % 2
     small = (rest - 64 * big - 9 * nine) // 2
-    gates += [Record(BUF if fanins == 1 else AND, 1 + k % 3, 2, [counts.index(64)] * fanins) for k in range(big)]
-    gates += [Record(BUF, 2, 0, [net]) for net in [counts.index(9)] * nine + [0] * small]
-    assert sum(count(inputs, gates)) == total
+    gates += [Record(BUF if fanins == 1 else AND, 1 + k % 3, 2, [have.index(64)] * fanins) for k in range(big)]
+    gates += [Record(BUF, 2, 0, [net]) for net in [have.index(9)] * nine + [0] * small]
+    assert sum(counts(inputs, gates)) == total
     return gates
 
 
-for n in range(57, 66):
+for n in range(57, 66):  # bench sheet, Others: 64 frames on a net pass, 65 give 13
     good(1, comb(n))
 good(1, comb(65) + [buf])
 for inputs in (1, 2, 32):
@@ -353,11 +505,132 @@ for inputs in (1, 2, 32):
         good(inputs, copies(inputs, total, 1))
         good(inputs, copies(inputs, total, 8))
 
+# ---- lengths of the areas and the lists: each one too short or too long, and more than one
 
-# ---- at random
+
+def around(right):
+    places = range(len(right))
+    return [tuple(right[i] + off * (i == k) for i in places) for k in places for off in (-1, 1)]
 
 
-def circuit(rng, inputs, gates):
+small = [Record(NOT, 2, 1, [0]), Record(XOR, 3, 0, [0, 1])]
+for inputs, gates in ((1, []), (2, small), (1, comb(65))):  # the last is refused with 13 where the lengths are right
+    words = (inputs, inputs)
+    for at in [RIGHT + words] + around(RIGHT + words) + [
+            RIGHT + (0, 0), RIGHT + (inputs + 1,) * 2, RIGHT[:4] + (0, 0, 0), (0,) * 7, (0,) * 5 + words,
+            (319, 2049) + RIGHT[2:] + words, (400, 2100, 2100, 16400, 2100) + words,
+            (320, 2048, 2047, 16384, 2049) + words, (320, 2048, 2048, 2048, 2048) + words,
+            RIGHT + (inputs, 80)]:
+        before, after = random_words(at[5]), random_words(at[6])
+        add(file_of(inputs, gates), 0, inputs, Run(inputs, gates, before, after), lengths=at[:5])
+# a refused file comes first, whatever the lengths are
+bad(file_of(0, []), 2, lengths=(1, 2, 3, 4, 5))
+bad(file_of(1, [Record(NOT, 1, 0, [1])]), 9, lengths=(400, 2100, 2100, 16400, 2100))
+# rubbish of every sort before an acceptance, and before 13
+for rubbish in (0, 1, 7, 255, 256, 32767, 32768, 65279, 65535):
+    good(2, small, rubbish=rubbish)
+    good(1, comb(65), rubbish=rubbish)
+
+# ---- looks after a run: the waves of document 01's example at every time, then nets and lanes that are not there
+
+for di in (1, 2):
+    for net in range(3):
+        for time in (0, 1, 2, 3, 4, 5, 65535):
+            good(1, wave_circuit(di), [0], [1], net=net, lane=0, time=time, expectations=())
+# bench sheet, Others: lane 63 passes, 64 gives 16
+for net, lane, time in ((3, 0, 4), (159, 0, 4), (160, 0, 4), (65535, 64, 4), (3, 64, 4), (2, 64, 4), (2, 65, 4), (2, 255, 4),
+                        (1, 62, 0), (1, 63, 0), (1, 63, 65535)):
+    good(1, wave_circuit(1), [2**63 + 5], [2**62 + 6], net=net, lane=lane, time=time, expectations=())
+
+
+# ---- Mark
+
+
+def mark(inputs, records, words, expectations, **more):
+    good(inputs, records, words[0], words[1], expectations=tuple(expectations), **more)
+
+
+def spans(run, net, lane):
+    """The frames of a net in a lane: from, to and level of each; the last ends with the last time there is."""
+    ends = [t - 1 for t in run.times[net][1:]] + [65535]
+    return [(start, end, int(run.wave(net, lane)[start])) for start, end in zip(run.times[net], ends)]
+
+
+marked = pulses(1)
+marked_words = ([0x0123456789abcdef], [0xfedcba9876543210])  # no lane stays: each lane's before and after differ
+marked_run = Run(1, marked, *marked_words)
+net, lane = len(marked), 37
+all_spans = spans(marked_run, net, lane)
+assert len(all_spans) == 49 and len({level for _, _, level in all_spans}) == 2
+met = [(net, lane, start, end, level) for start, end, level in all_spans]
+
+
+def broken(expectation):
+    return expectation[:4] + (1 - expectation[4],)
+
+
+# lists of 0 to 12 that are met; then one that is not, at each position, at some frame of the net
+for n in range(13):
+    mark(1, marked, marked_words, met[3:3 + n])
+for position in range(12):
+    mark(1, marked, marked_words, met[:position] + [broken(met[4 * position])] + met[position + 1:12])
+# the frame that breaks: every fourth, the first and the last, alone in the span, then from its middle on
+for k in sorted({*range(0, 49, 4), 48}):
+    start, end, level = all_spans[k]
+    mark(1, marked, marked_words, [(net, lane, start, start, 1 - level)])
+    mark(1, marked, marked_words, [met[k], (net, lane, min(end, start + 1), end, 1 - level)])
+# spans that end at a frame's last time, and one time later, where another level begins; a frame that began before the span
+for k in [k for k in range(48) if all_spans[k][2] != all_spans[k + 1][2]][::3]:
+    start, end, level = all_spans[k]
+    mark(1, marked, marked_words, [(net, lane, start, end, level), (net, lane, end, end + 1, level)])
+    mark(1, marked, marked_words, [(net, lane, end + 1, end + 1, 1 - level), (net, lane, end, end + 1, 1 - level)])
+# beyond the last frame, up to time 65,535
+last, final = marked_run.last, all_spans[-1][2]
+for start, end in ((last + 1, last + 1), (last + 1, 65535), (65535, 65535), (last, 65535), (65534, 65535)):
+    mark(1, marked, marked_words, [(net, lane, start, end, final)])
+    mark(1, marked, marked_words, [(net, lane, start, end, 1 - final)])
+mark(1, marked, marked_words, [(net, lane, 0, 65535, final)])
+mark(1, marked, marked_words, [(net, lane, 0, 65535, 1 - final)])
+# more than one is not met: the first counts, also where its frame is later or its net is
+mark(1, marked, marked_words, [met[0], broken(met[40]), broken(met[2]), broken(met[1])])
+mark(1, marked, marked_words, [(0, lane, 0, 0, int(marked_run.wave(0, lane)[0])), broken(met[48]), (0, lane, 0, 65535, 0)])
+mark(1, marked, marked_words, [broken(met[9])] * 12)
+# inputs, and each lane by its own bits
+for l in (0, 1, 31, 32, 62, 63):
+    first = int(marked_run.wave(0, l)[0])
+    mark(1, marked, marked_words, [(0, l, 0, 0, first), (0, l, 1, 65535, 1 - first)], lane=l)
+    mark(1, marked, marked_words, [(0, l, 0, 0, first), (0, l, 1, 9, first)], lane=l)
+    mark(1, marked, marked_words, [(net, l, 0, 65535, int(marked_run.wave(net, l)[-1]))], lane=l)
+# document 01's example: the level holds over frames that do not change it
+mark(1, wave_circuit(2), ([0], [1]), [(2, 0, 0, 65535, 0), (1, 0, 0, 2, 1), (1, 0, 3, 65535, 0), (1, 0, 2, 3, 0)])
+mark(1, wave_circuit(1), ([0], [1]), [(2, 0, 0, 1, 0), (2, 0, 2, 3, 1), (2, 0, 4, 9, 0), (2, 0, 1, 3, 1)])
+
+# question 12, for each reason, alone and at each end of a list; what is not met before it does not count
+nets = net + 1
+for wrong in ((nets, lane, 0, 0, 0), (65535, lane, 0, 0, 0), (net, 64, 0, 0, 0), (net, 255, 0, 0, 0), (net, lane, 1, 0, 0),
+              (net, lane, 65535, 65534, 0), (net, lane, 0, 0, 2), (net, lane, 0, 0, 255), (nets, 64, 1, 0, 2)):
+    mark(1, marked, marked_words, [wrong])
+    mark(1, marked, marked_words, met[:11] + [wrong])
+    mark(1, marked, marked_words, [wrong, broken(met[0])])
+    mark(1, marked, marked_words, [broken(met[0]), wrong])
+# the largest that suits: the last net, lane 63, from and to 65,535, level 1
+mark(1, marked, marked_words, [(net, 63, 65535, 65535, 1)])
+# 12 before 13, and 13 where the list suits; 10 and 11 before 12; a refused file before all
+mark(1, comb(65), ([1], [2]), [(19, 0, 0, 0, 0)])
+mark(1, comb(65), ([1], [2]), [(18, 0, 0, 0, 0)])
+mark(1, comb(65), ([1], [2]), [(18, 64, 0, 0, 0)])
+mark(1, marked, marked_words, [(nets, lane, 0, 0, 0)], lengths=RIGHT[:4] + (2047,))
+mark(1, marked, marked_words, [met[0]], lengths=(321,) + RIGHT[1:])
+mark(1, marked, ([1, 2], [3]), [(nets, lane, 0, 0, 0)])
+mark(1, marked, ([1], [2, 3]), [met[0]])
+for number, data in ((1, b""), (2, file_of(0, [])), (8, file_of(1, [Record(NOT, 1, 0, [0, 0])]))):
+    bad(data, number, expectations=tuple(met[:12]))
+    bad(data, number, expectations=((nets, 64, 1, 0, 2),))
+
+# ---- circuits at random
+
+
+def circuit(inputs, gates):
     records = []
     for j in range(gates):
         kind = rng.randrange(8)
@@ -366,11 +639,10 @@ def circuit(rng, inputs, gates):
     return records
 
 
-rng = random.Random(7)
 good(32, [Record(AND, 63, 63, [31 + j] * 8) for j in range(128)])
-for turn in range(60):
+for turn in range(40):
     inputs, gates = rng.choice([1, 2, 5, 32]), rng.choice([1, 2, 3, 8, 40, 128])
-    c = circuit(rng, inputs, gates)
+    c = circuit(inputs, gates)
     good(inputs, [Record(*g) for g in c])
     j = rng.randrange(gates)
     kind, d, di, fanins = c[j]
@@ -400,64 +672,47 @@ for size in ((1, 12, 4), (2, 12, 6), (4, 40, 10), (5, 60, 20), (8, 128, 60), (16
     for turn in range(3):
         good(size[0], lively(*size))
 
-# ---- parts of a net, made up: times, values, lane, time
+# ---- parts of a net that no run made
 
 three, words = [0, 5, 7], [2**31, 2**63 + 1, 2**31 + 1]
-parts = [([], [], 0, 0), ([], [0], 0, 0), ([0], [], 0, 0), ([0, 5], [0, 1, 0], 0, 5), (three, [0, 1], 0, 5),
-         ([5, 7], [0, 1, 0], 0, 5), ([5, 7], [0, 1, 0], 64, 5)]
+# question 14, which comes before 15 and 16
+for times, values, lane, time in (([], [], 0, 0), ([], [0], 0, 0), ([0], [], 0, 0), ([0, 5], [0, 1, 0], 0, 5),
+                                  (three, [0, 1], 0, 5), ([5, 7], [0, 1, 0], 0, 5), ([5, 7], [0, 1, 0], 64, 5)):
+    look(times, values, lane, time)
+rising = [3 * k for k in range(80)]
+for m, n in ((63, 63), (64, 64), (65, 65), (64, 65), (65, 64), (80, 80), (1, 80), (80, 1)):  # 64 frames pass, 65 do not
+    look(rising[:m], random_words(n), 63, 100)
+    look([0] * m, [0] * n, 0, 0)
+# question 15, which comes before 16
 for times, lane, time in (([1], 0, 1), ([1, 2], 0, 1), ([0, 0], 0, 0), ([0, 5, 5], 0, 5), ([0, 5, 4], 0, 5),
                           ([0, 5, 7, 7], 0, 0), ([0, 5, 7, 6], 0, 0), ([0, 256, 255, 257], 0, 0), ([0, 5, 5], 64, 5)):
-    parts.append((times, [0, 1, 0, 1][:len(times)], lane, time))
-parts += [(three, words, lane, 5) for lane in (64, 65, 127, 128, 255, 0, 1, 30, 31, 32, 62, 63)]
-parts += [(three, words, 63, time) for time in (0, 1, 4, 5, 6, 7, 8, 65535)]
-parts += [([0, 65534, 65535], words, 31, time) for time in (65533, 65534, 65535)]
-parts += [([0], words[:1], 31, time) for time in (0, 65535)]
-parts += [([0] * m, [0] * n, 0, 0) for m, n in ((64, 64), (65, 65), (64, 65), (65, 64))]
+    look(times, [0, 1, 0, 1][:len(times)], lane, time)
+look(rising[:63] + [rising[62]], random_words(64), 0, 0)
+# question 16, and each lane by its own bit
+for lane in (64, 65, 127, 128, 255, 0, 1, 30, 31, 32, 62, 63):
+    look(three, words, lane, 5)
+# times just before, at and behind those of the frames
+for time in (0, 1, 4, 5, 6, 7, 8, 65535):
+    look(three, words, 63, time)
+for time in (65533, 65534, 65535):
+    look([0, 65534, 65535], words, 31, time)
+for time in (0, 65535):
+    look([0], words[:1], 31, time)
+for turn in range(60):
+    n = rng.choice([1, 2, 3, 8, 40, 64])
+    times = [0] + sorted(rng.sample(range(1, rng.choice([100, 700, 65536])), n - 1))
+    look(times, random_words(n), rng.randrange(64), max(0, rng.choice(times + [65535]) - rng.choice([0, 0, 1])))
 
-# ---- written out
-
-
-def around(lengths):
-    """The right lengths, then one of them too short or too long."""
-    places = range(len(lengths))
-    return [lengths] + [tuple(lengths[i] + off * (i == k) for i in places) for k in places for off in (-1, 1)]
-
-
-right = LENGTHS + (VALUES,)
-plan_lengths = around(LENGTHS) + [(0,) * 4]
-run_lengths = around(right + (1, 1)) + [right + (0, 0), right + (2, 2), LENGTHS + (0, 0, 0), (0,) * 7]
+# ---- written out; the last case is one byte longer than the program's buffer, which ends the run
 
 with open("crates/cases/stdin", "wb") as f:
-    for data, _ in cases:
-        f.write(len(data).to_bytes(4, "little") + data)
-    f.write((70001).to_bytes(4, "little"))  # one case too long ends the run
+    f.writelines(data for _, data, _ in cases)
+    f.write(b"c" + (70001).to_bytes(4, "little") + b"".join(map(two, RIGHT)) + bytes(10))
 with open("crates/cases/stdout", "w") as f:
-    for l in plan_lengths:
-        answer, areas = plan(frames(1, [])) if l == LENGTHS else ("refused 10", untouched(l))
-        f.write("lengths " + " ".join(map(str, l)) + f"; {answer} {sums(areas)}\n")
-    for l in run_lengths:
-        answer, areas = f"refused {10 if l[:5] != right else 11}", untouched(l[:5])
-        if l == right + (1, 1):
-            answer, areas, _ = run(frames(1, []), [], [3], [5], range(64))
-        first = answer.split()[1] if answer.startswith("refused") else 0
-        f.write("run lengths " + " ".join(map(str, l)) + f"; {first} {answer} {sums(areas)}\n")
-    for di in (1, 2):
-        nets = frames(1, wave_circuit(di))
-        answer, areas, values = run(nets, wave_circuit(di), [0], [1], range(64))
-        f.write(f"waves; 0 {answer} {sums(areas)}")
-        for net, (times, _, _) in enumerate(nets):
-            f.write(f"; {net} " + " ".join(f"{t}={look(times, values[net], 0, t)[0]}" for t in times))
-        f.write("\n")
-    for times, values, lane, time in parts:
-        f.write(f"look {len(times)} {len(values)} {lane} {time}; " + "; ".join(look(times, values, lane, time)) + "\n")
-    nets = frames(1, wave_circuit(1))
-    _, areas, values = run(nets, wave_circuit(1), [0], [1], range(64))
-    for net, lane, time in ((2, 0, 1), (2, 0, 2), (2, 0, 3), (2, 0, 4), (3, 0, 4), (160, 0, 4), (65535, 64, 4), (2, 64, 4),
-                            (1, 63, 0), (1, 63, 65535)):
-        seen = look(nets[net][0], values[net], lane, time)[0] if net < 3 else "refused 14"
-        f.write(f"run and look {net} {lane} {time}; {seen} {sums(areas)}\n")
-    for number in (11, 1):
-        f.write(f"run and look 2 0 4; refused {number} {sums(untouched(right))}\n")
-    f.writelines(line + "\n" for _, line in cases)
+    f.writelines(line + "\n" for _, _, line in cases)
     f.write("cut\n")
-print(len(cases), "cases,", sum("planned" in line for _, line in cases), "planned,", sum("refused 13" in line for _, line in cases), "refused with 13")
+lines = [line for kind, _, line in cases if kind == "c"]
+print(len(lines), "circuits:", sum("; planned" in line for line in lines), "planned,",
+      sum("refused 13" in line for line in lines), "with 13,", sum("all met" in line for line in lines), "all met,",
+      sum("unmet" in line for line in lines), "unmet,", sum("refused 12" in line for line in lines), "with 12;",
+      len(cases) - len(lines), "looks")

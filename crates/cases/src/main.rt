@@ -1,120 +1,68 @@
-// The test program. Standard input is a row of cases, each a length of four bytes, little-endian, and a circuit file of
-// that length. Standard output has a line a case: what the reader answers, `accepted I G` or `refused` and the number; what
-// Plan answers, `planned` and the three totals or `refused` and the number, with a sum of each area as Plan leaves it; and
-// what Plan answers where the directory is too short. Then, with words that the case's number gives, what Run's questions 1
-// to 11 answer, and Run, with a sum of each area; what Level and Count answer for the last net, where there was a run; and
-// what Run answers where a word list or the values are too short. It stops at the end of the input; where it stops before
-// that, at a case that is cut short or longer than 70,000 bytes or after a million cases, it prints `cut`. Before the cases
-// come lines for areas and lists of other lengths, for a circuit whose waves are known, for parts of a net that are made up,
-// and for looks after a run.
-ghost use Prim.Native.Nat.{_<_};
-
+// The test program. Standard input is a stream of cases of any length, standard output has a line a case. Numbers of more
+// than one byte are little-endian. The first byte of a case says what it is.
+//
+// `c`, the calls on a circuit. First 24 bytes: the file's length (4), the lengths of directory, times, inertial, fan-ins and
+// values (2 each), a rubbish number (2), how many before words and how many after words (1 each), a net (2), a lane (1), a
+// time (2), and how many expectations (1). Then the file, the before words and the after words (8 each), and the
+// expectations, each as net (2), lane (1), from (2), to (2) and level (1). The line has, with a semicolon between them:
+// - what the reader answers, `accepted` with I and G;
+// - what Plan answers, `planned` with the frame total, the fan-in total and the last potential time;
+// - what Run's questions 1 to 11 answer, the number of the first "no" or 0;
+// - what Run answers, as for Plan;
+// - where there was a run, what is seen of the net in its parts of the times and the values as Run left them: Level at the
+//   time in all lanes, as 16 hexadecimal digits in which bit L is lane L, and a sum of Count in lanes 0 to 63;
+// - what `look` answers for the net, the lane and the time, a level;
+// - what Mark answers for the expectations, `all met` or `unmet` with the position and the frame.
+// In each place `refused` with its number stands for a refusal. Behind the answers of Plan, Run's questions, Run, `look` and
+// Mark stands a sum of each of the five areas as that call leaves them. Before each of these calls every area is filled with
+// rubbish: entry k is (rubbish + 257 * k) % 65536, and word k of the values has that number in each of its four quarters.
+// A sum of numbers starts at 0, and each number x takes it to (17 * sum + x + 1) % 65521. Of the values it takes the four
+// quarters of each word, the lowest first.
+//
+// `l`, a look at parts that no run made. First 5 bytes: how many times and how many values (1 each), a lane (1) and a time
+// (2). Then the times (2 each) and the values (8 each). The line has what Level and what Count answer: a level and a number,
+// or `refused` with the number.
+//
+// The program stops at the end of the input. At another first byte, at a case that is cut short and at one that its buffers
+// do not hold it prints `cut` and stops. They hold a file of 70,000 bytes, areas of 400, 2,100, 2,100, 16,400 and 2,100
+// entries, 80 words or times in a list, and 12 expectations.
+mod areas;
+mod calls;
+mod circuits;
+mod input;
 mod looks;
-mod patterns;
-mod plans;
-mod runs;
+mod marks;
+mod parts;
+mod print;
 
-use circuit::Reading;
+use circuits::circuit_case;
 use libc::STDIN_FILENO;
 use libc::STDOUT_FILENO;
-use looks::looks_at_parts;
-use plans::lengths;
-use plans::show_plan;
-use plans::show_refused;
-use plans::show_short;
-use runs::looks_after_runs;
-use runs::run_lengths;
-use runs::show_runs;
-use runs::waves;
+use parts::parts_case;
 
 fn main() {
-    fixed_lines();
-    let mut turns: u32 = 0;
-    while turns < 1000000 {
-        if !next_case(turns) {
+    let mut turns: u64 = 0;
+    while turns < 18446744073709551615 {
+        if !next_case() {
             return;
         }
         turns += 1;
     }
-    end_of_turns();
 }
 
-// The lines that come before the cases.
-fn fixed_lines() {
-    lengths();
-    run_lengths();
-    waves();
-    looks_at_parts();
-    looks_after_runs();
-}
-
-// Says so where input is left.
-fn end_of_turns() {
-    let mut more = [0u8; 1];
-    if io::read_full(STDIN_FILENO, &mut more) != 0 {
-        cut();
-    }
-}
-
-// One case, with its number. False at the end of the input.
-fn next_case(turn: u32) -> bool {
-    let mut head = [0u8; 4];
-    let got = io::read_full(STDIN_FILENO, &mut head);
-    if got == 0 {
+// One case. False where the program stops.
+fn next_case() -> bool {
+    let mut first = [0u8; 1];
+    if io::read_full(STDIN_FILENO, &mut first) == 0 {
         return false;
     }
-    if got < 4 {
-        return cut();
+    let shown = match first[0] {
+        b'c' => circuit_case(),
+        b'l' => parts_case(),
+        _ => false,
+    };
+    if !shown {
+        io::write_all(STDOUT_FILENO, b"cut\n");
     }
-    let mut body = [0u8; 70000];
-    read_case(turn, length_of(head), &mut body)
-}
-
-fn length_of(head: [u8; 4]) -> usize {
-    wide(head[0]) + 256 * wide(head[1]) + 65536 * wide(head[2]) + 16777216 * wide(head[3])
-}
-
-fn wide(x: u8) -> usize
-    ensures { λ r. ⌜ r < 256 ⌝ }
-{
-    x as usize
-}
-
-fn read_case(turn: u32, len: usize, body: &mut [u8]) -> bool {
-    if body.len() < len {
-        return cut();
-    }
-    show_case(turn, &mut body[0..len])
-}
-
-// Fills the file from the input and prints its line.
-fn show_case(turn: u32, file: &mut [u8]) -> bool {
-    if io::read_full(STDIN_FILENO, file) < file.len() {
-        return cut();
-    }
-    show_reading(file);
-    io::write_all(STDOUT_FILENO, b";");
-    show_plan(file);
-    io::write_all(STDOUT_FILENO, b";");
-    show_short(file);
-    show_runs(turn, file);
-    io::write_all(STDOUT_FILENO, b"\n");
-    true
-}
-
-fn show_reading(file: &[u8]) {
-    match circuit::read(file) {
-        Reading::Accepted { inputs, gates } => {
-            io::write_all(STDOUT_FILENO, b"accepted ");
-            io::print_decimal(STDOUT_FILENO, inputs as u64);
-            io::write_all(STDOUT_FILENO, b" ");
-            io::print_decimal(STDOUT_FILENO, gates as u64);
-        }
-        Reading::Refused(number) => show_refused(number),
-    }
-}
-
-fn cut() -> bool {
-    io::write_all(STDOUT_FILENO, b"cut\n");
-    false
+    shown
 }

@@ -1,4 +1,4 @@
--- `cases::main` meets its contract. Each turn is one of a million.
+-- `cases::main` meets its contract. Each turn is one of 18,446,744,073,709,551,615.
 -- Assumes nothing.
 use Prim.Native.Nat.{_-_}
 use borrow.Author.Needs.{needs}
@@ -9,10 +9,7 @@ abbrev Inv-loop : tie.InvT-loop
 Inv-loop turns₀ turns = Unit
 
 abbrev μ-loop : tie.MeasureT-loop
-μ-loop turns₀ turns = 1000000 - turns
-
-fixed-lines-requires : tie.Need-fixed-lines-requires Inv-loop μ-loop
-fixed-lines-requires c κs = search needs
+μ-loop turns₀ turns = 18446744073709551615 - turns
 
 loop-holds : tie.Need-loop-holds Inv-loop μ-loop
 loop-holds c = search needs
@@ -32,9 +29,6 @@ loop-less c = search needs
 loop-again : tie.Need-loop-again Inv-loop μ-loop
 loop-again c = search needs
 
-end-of-turns-requires : tie.Need-end-of-turns-requires Inv-loop μ-loop
-end-of-turns-requires c κs = search needs
-
 returns-2 : tie.Need-returns-2 Inv-loop μ-loop
 returns-2 c = search needs
 
@@ -44,12 +38,10 @@ main-spec =
     (tie.spec
     Inv-loop
     μ-loop
-    fixed-lines-requires
     loop-holds
     next-case-requires
     returns
     add-turns
     loop-less
     loop-again
-    end-of-turns-requires
     returns-2)

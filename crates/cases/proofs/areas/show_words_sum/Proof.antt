@@ -1,10 +1,10 @@
--- `show_words` meets its contract. The place rises to the length.
+-- `show_words_sum` meets its contract. The place rises to the length.
 -- Assumes nothing.
 use Prim.Native.Nat.{_-_}
 use lib.ListN.{length}
 use borrow.Author.Needs.{needs}
-use Rattle.cases.proofs.runs.show_words.Statement.{statement}
-use Rattle.cases.proofs.runs.show_words.Tie as tie
+use Rattle.cases.proofs.areas.show_words_sum.Statement.{statement}
+use Rattle.cases.proofs.areas.show_words_sum.Tie as tie
 
 abbrev Inv-loop : tie.InvT-loop
 Inv-loop words sum₀ k₀ sum k = Unit
@@ -39,8 +39,8 @@ show-number-requires c κs = search needs
 returns : tie.Need-returns Inv-loop μ-loop
 returns c = search needs
 
-pub show-words-spec : {M : Type 1} → statement M
-show-words-spec =
+pub show-words-sum-spec : {M : Type 1} → statement M
+show-words-sum-spec =
     tie.close
     (tie.spec
     Inv-loop
