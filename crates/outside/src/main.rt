@@ -1,0 +1,168 @@
+// The comparison with a simulator by another hand: the changes of every net in all 64 lanes. The stored output is what
+// that simulator says of the stored vectors (tools/make_vectors.py).
+//
+// Standard input is a stream of any number of vectors: two bytes with a length N, little-endian, and N bytes that are
+// an input of the wave program: two bytes with the circuit's length, the circuit, I before words and I after words, 8
+// bytes each, all little-endian. Standard output has for each vector a line a net, and an empty line after the last:
+//
+//     K t=word t=word ...; C
+//
+// K is the net's number. Frame 0 stands in the line, and every later frame whose word is another than that of the
+// frame before: the time in decimal and the word in 16 hexadecimal digits, bit L for lane L. C is the sum over the 64
+// lanes of what Count answers. A vector that is turned down has one line, `refused` and the number that the wave
+// program gives it (0 if it has under 2 or over 4,096 bytes or is shorter than its circuit), and the empty line. The
+// program stops at the end of the stream; where that lies within a vector it prints `cut`.
+ghost use Prim.Native.Nat.{_≤_};
+
+mod nets;
+
+use circuit::Reading;
+use circuit::number_at;
+use libc::STDIN_FILENO;
+use libc::STDOUT_FILENO;
+use nets::show_nets;
+use nets::wide;
+use planner::Planning;
+use waveform::word_at_byte;
+
+// No input has as many vectors as there are turns: each takes two bytes or more.
+fn main() {
+    let mut turns: u64 = 0;
+    while turns < 18446744073709551615 {
+        if !next_vector() {
+            return;
+        }
+        turns += 1;
+    }
+}
+
+// One vector. False at the end of the input.
+fn next_vector() -> bool {
+    let mut head = [0u8; 2];
+    let got = io::read_full(STDIN_FILENO, &mut head);
+    if got == 0 {
+        return false;
+    }
+    if got < 2 {
+        return cut();
+    }
+    let len = wide(number_at(&head, 0));
+    let mut body = [0u8; 65535];
+    show_vector(&mut body[0..len])
+}
+
+// Fills the vector from the input and prints its lines.
+fn show_vector(vector: &mut [u8]) -> bool {
+    if io::read_full(STDIN_FILENO, vector) < vector.len() {
+        return cut();
+    }
+    take_apart(vector);
+    io::write_all(STDOUT_FILENO, b"\n");
+    true
+}
+
+fn cut() -> bool {
+    io::write_all(STDOUT_FILENO, b"cut\n");
+    false
+}
+
+// The wave program's own question 0, and where the circuit ends.
+fn take_apart(vector: &[u8]) {
+    let len = vector.len();
+    if len < 2 {
+        return show_refused(0);
+    }
+    if 4096 < len {
+        return show_refused(0);
+    }
+    let end = 2 + number_at(vector, 0) as usize;
+    if len < end {
+        return show_refused(0);
+    }
+    show_circuit(&vector[2..end], &vector[end..len]);
+}
+
+// Asks the circuit's questions before the one about the words.
+fn show_circuit(file: &[u8], words: &[u8]) {
+    match circuit::read(file) {
+        Reading::Accepted { inputs, gates } => {
+            if words.len() != 16 * inputs as usize {
+                return show_refused(11);
+            }
+            with_words(file, words, inputs as usize, nets_of(inputs, gates));
+        }
+        Reading::Refused(number) => show_refused(number),
+    }
+}
+
+// How many nets an accepted circuit has; 160 at most.
+fn nets_of(inputs: u16, gates: u16) -> u16 {
+    if 32 < inputs {
+        return 0;
+    }
+    if 128 < gates {
+        return 0;
+    }
+    inputs + gates
+}
+
+// Takes the before words and the after words from the bytes. An accepted circuit has at most 32 inputs; it is asked again
+// since the lists have 32 places.
+fn with_words(file: &[u8], words: &[u8], inputs: usize, nets: u16) {
+    if 32 < inputs {
+        return show_refused(2);
+    }
+    let mut before = [0u64; 32];
+    let mut after = [0u64; 32];
+    fill_words(&mut before, words, 0);
+    fill_words(&mut after, words, 8 * inputs);
+    with_lists(file, &before, &after, inputs, nets);
+}
+
+fn with_lists(file: &[u8], before: &[u64; 32], after: &[u64; 32], inputs: usize, nets: u16)
+    requires { ⌜ inputs ≤ 32 ⌝ }
+{
+    let b = &before[..];
+    let a = &after[..];
+    show_run(file, &b[0..inputs], &a[0..inputs], nets);
+}
+
+// Fills a list with the words from a place on. Past the end of the bytes they are 0.
+fn fill_words(list: &mut [u64; 32], bytes: &[u8], from: usize)
+    requires { ⌜ from ≤ 256 ⌝ }
+{
+    let mut k = 0;
+    while k < 32 {
+        list[k] = word_at_byte(bytes, from + 8 * k);
+        k += 1;
+    }
+}
+
+// Runs the circuit, and prints its nets or the number of the refusal.
+fn show_run(file: &[u8], before: &[u64], after: &[u64], nets: u16) {
+    let mut directory = [0u16; 320];
+    let mut times = [0u16; 2048];
+    let mut inertial = [0u16; 2048];
+    let mut fanins = [0u16; 16384];
+    let mut values = [0u64; 2048];
+    let answer = engine::run(
+        file,
+        &mut directory,
+        &mut times,
+        &mut inertial,
+        &mut fanins,
+        &mut values,
+        before,
+        after,
+    );
+    match answer {
+        Planning::Planned(_) => show_nets(&directory, &times, &values, nets),
+        Planning::Refused(number) => show_refused(number),
+    }
+}
+
+fn show_refused(number: u8) {
+    io::write_all(STDOUT_FILENO, b"refused ");
+    io::print_decimal(STDOUT_FILENO, number as u64);
+    io::write_all(STDOUT_FILENO, b"\n");
+}

@@ -1,0 +1,121 @@
+// A net's changes in all lanes, printed.
+ghost use Prim.Native.Nat.{_<_, _≤_};
+use engine::Counted;
+use libc::STDOUT_FILENO;
+use method::Net;
+use method::Time;
+
+// From a net's first frame to behind its last.
+struct Span {
+    first: usize,
+    end: usize,
+}
+
+// Prints a line a net.
+pub(crate) fn show_nets(
+    directory: &[u16; 320],
+    times: &[u16; 2048],
+    values: &[u64; 2048],
+    nets: u16,
+) {
+    let mut net: u16 = 0;
+    while net < nets {
+        show_net(directory, times, values, Net(net));
+        net += 1;
+    }
+}
+
+fn show_net(directory: &[u16; 320], times: &[u16; 2048], values: &[u64; 2048], net: Net) {
+    let span = span_of(directory, net);
+    let first = span.first;
+    let end = span.end;
+    io::print_decimal(STDOUT_FILENO, net.0 as u64);
+    show_changes(times, values, first, end);
+    io::write_all(STDOUT_FILENO, b"; ");
+    show_count(times, values, first, end);
+    io::write_all(STDOUT_FILENO, b"\n");
+}
+
+// A net's frames by its pair in the directory; none where the pair reaches out of the areas.
+fn span_of(directory: &[u16; 320], net: Net) -> Span
+    ensures { λ r. ⌜ (r .first ≤ r .end) × (r .end ≤ 2048) ⌝ }
+{
+    let pair = 2 * wide(net.0);
+    if 320 <= pair + 1 {
+        return Span { first: 0, end: 0 };
+    }
+    let first = wide(directory[pair]);
+    let frames = wide(directory[pair + 1]);
+    if 2048 < first + frames {
+        return Span { first: 0, end: 0 };
+    }
+    Span {
+        first: first,
+        end: first + frames,
+    }
+}
+
+// A two-byte number as a place or a length, with its bound.
+pub(crate) fn wide(x: u16) -> usize
+    ensures { λ r. ⌜ r < 65536 ⌝ }
+{
+    x as usize
+}
+
+fn show_changes(times: &[u16; 2048], values: &[u64; 2048], first: usize, end: usize)
+    requires { ⌜ end ≤ 2048 ⌝ }
+{
+    let mut k = first;
+    while k < end {
+        show_change(times, values, first, k);
+        k += 1;
+    }
+}
+
+// Prints the frame at a place if it is the net's first, or if its word is another than that of the frame before.
+fn show_change(times: &[u16; 2048], values: &[u64; 2048], first: usize, k: usize)
+    requires { ⌜ k < 2048 ⌝ }
+{
+    if first < k {
+        if values[k - 1] == values[k] {
+            return;
+        }
+    }
+    show_frame(Time(times[k]), values[k]);
+}
+
+fn show_frame(time: Time, word: u64) {
+    io::write_all(STDOUT_FILENO, b" ");
+    io::print_decimal(STDOUT_FILENO, time.0 as u64);
+    io::write_all(STDOUT_FILENO, b"=");
+    io::print_hex(STDOUT_FILENO, word, 16);
+}
+
+fn show_count(times: &[u16; 2048], values: &[u64; 2048], first: usize, end: usize)
+    requires { ⌜ (first ≤ end) × (end ≤ 2048) ⌝ }
+{
+    let t = &times[..];
+    let v = &values[..];
+    io::print_decimal(STDOUT_FILENO, changes(&t[first..end], &v[first..end]));
+}
+
+// How often the lanes change, all taken together.
+fn changes(times: &[u16], values: &[u64]) -> u64 {
+    let mut sum: u64 = 0;
+    let mut lane: u8 = 0;
+    while lane < 64 {
+        sum += changes_in(times, values, lane);
+        lane += 1;
+    }
+    sum
+}
+
+// What Count answers. A refusal counts 65,535, more than all lanes of a net can change, so that it shows.
+fn changes_in(times: &[u16], values: &[u64], lane: u8) -> u64
+    ensures { λ r. ⌜ r < 65536 ⌝ }
+{
+    match engine::count(times, values, lane) {
+        Counted::Changes(changes) => changes as u64,
+        Counted::Refused(_) => 65535,
+    }
+}
