@@ -1,0 +1,179 @@
+#!/usr/bin/env python3
+r"""Writes an input of the wave program, or a circuit file alone, from a text that a person can read; draws the waves.
+
+    python3 tools/circuit_file.py examples/first.txt > first.wave               an input of the wave program
+    python3 tools/circuit_file.py --circuit examples/first.txt > first.circuit  the circuit file alone
+    target/bin/wave < first.wave | python3 tools/circuit_file.py --draw examples/first.txt
+
+The text has a line for each net, the inputs first. What follows a # is a comment.
+
+    input a 0->1                              level before and level after; `input a 1` stays at 1, `input a` at 0
+    not_a = NOT a, delay 2                    kind, nets that the gate reads, transport delay
+    pulse = AND a not_a, delay 1, inertial 1  the inertial delay is 0 if it is not given
+
+Nets are numbered in the order of their lines, from 0. The levels go into lane 0; the other lanes are 0. In a drawing a
+column is a unit of time, _ is level 0, - is level 1, and / and \ stand at the times of the changes.
+"""
+import argparse
+import re
+import sys
+from collections import namedtuple
+
+Input = namedtuple("Input", "name before after")
+Gate = namedtuple("Gate", "name kind fanins delay inertial")
+
+# ---- The bytes: all that this script knows of the file format and its limits
+
+KINDS = ["BUF", "NOT", "AND", "NAND", "OR", "NOR", "XOR", "XNOR"]  # a kind's number is its place
+MOST_INPUTS, MOST_GATES, MOST_FANINS, MOST_DELAY = 32, 128, 8, 63
+
+
+def two(number):
+    return number.to_bytes(2, "little")
+
+
+def record(gate):
+    head = bytes([KINDS.index(gate.kind), gate.delay, gate.inertial])
+    return head + b"".join(two(net) for net in gate.fanins)
+
+
+def circuit_file(inputs, gates):
+    records = [record(gate) for gate in gates]
+    at, pairs = 4 + 4 * len(records), b""
+    for r in records:
+        pairs += two(at) + two(len(r))
+        at += len(r)
+    return two(len(inputs)) + two(len(gates)) + pairs + b"".join(records)
+
+
+def wave_input(inputs, gates):
+    circuit = circuit_file(inputs, gates)
+    levels = [i.before for i in inputs] + [i.after for i in inputs]
+    return two(len(circuit)) + circuit + b"".join(level.to_bytes(8, "little") for level in levels)
+
+
+# ---- The text
+
+
+class Fault(Exception):
+    """What is wrong with a line, for the person who wrote it."""
+
+
+def input_of(name, said):
+    levels = re.fullmatch(r"([01])(?:\s*->\s*([01]))?", said or "0")
+    if not levels:
+        raise Fault(f"the level of input {name} is 0, 1, 0->1 or 1->0, not '{said}'")
+    before, after = levels.groups()
+    return Input(name, int(before), int(after or before))
+
+
+def gate_of(name, said, nets):
+    said = said.replace(",", " ").strip()  # commas are for the eye alone
+    parts = re.fullmatch(r"(\w+)\s(.*?)\s*\bdelay\s+(\d{1,9})(?:\s+inertial\s+(\d{1,9}))?", said)
+    if not parts or {"delay", "inertial"} & set(parts[2].split()):
+        raise Fault("a gate is written NAME = KIND NET NET .., delay NUMBER, inertial NUMBER; 'inertial' may be left out")
+    kind, read, delay, inertial = parts[1].upper(), parts[2].split(), int(parts[3]), int(parts[4] or 0)
+    if kind not in KINDS:
+        raise Fault(f"'{parts[1]}' is not a kind of gate; the kinds are {', '.join(KINDS)}")
+    least, most = (1, 1) if kind in ("BUF", "NOT") else (2, MOST_FANINS)
+    if not least <= len(read) <= most:
+        raise Fault(f"{kind} reads {'1 net' if most == 1 else f'{least} to {most} nets'}, not {len(read)}")
+    for net in read:
+        if net not in nets:
+            raise Fault(f"no net above is called '{net}'; a gate stands below the nets that it reads, without loops")
+    if not (1 <= delay <= MOST_DELAY and inertial <= MOST_DELAY):
+        raise Fault(f"a delay is from 1 to {MOST_DELAY}, an inertial delay from 0 to {MOST_DELAY}")
+    return Gate(name, kind, [nets[net] for net in read], delay, inertial)
+
+
+def add_net(line, inputs, gates, nets):
+    of_input = re.fullmatch(r"input\s+(\w+)\s*(.*)", line)
+    parts = of_input or re.fullmatch(r"(\w+)\s*=\s*(.*)", line)
+    if not parts:
+        raise Fault(f"'{line}' is neither 'input NAME LEVEL' nor 'NAME = KIND NET NET .., delay NUMBER'")
+    name, said = parts.groups()
+    if name in nets:
+        raise Fault(f"two nets are called '{name}'")
+    if of_input and gates:
+        raise Fault("the inputs stand above all gates")
+    if of_input:
+        inputs.append(input_of(name, said))
+    else:
+        gates.append(gate_of(name, said, nets))
+    if len(inputs) > MOST_INPUTS or len(gates) > MOST_GATES:
+        raise Fault(f"a circuit has at most {MOST_INPUTS} inputs and {MOST_GATES} gates")
+    nets[name] = len(nets)
+
+
+def read_text(lines):
+    """The inputs and the gates of a text."""
+    inputs, gates, nets = [], [], {}  # nets: the number of each name
+    for number, line in enumerate(lines, 1):
+        line = line.split("#")[0].strip()
+        try:
+            if line:
+                add_net(line, inputs, gates, nets)
+        except Fault as fault:
+            raise Fault(f"line {number}: {fault}") from None
+    if not inputs:
+        raise Fault("a circuit has at least one input")
+    return inputs, gates
+
+
+# ---- The drawing
+
+
+def frames_of(line):
+    """The levels of a net by their times, from a line that the wave program printed."""
+    if not re.fullmatch(r"\d+ 0=[01]( \d+=[01])*", line):
+        raise Fault(f"the wave program does not print '{line}'")
+    return {int(time): int(level) for time, level in re.findall(r"(\d+)=([01])", line)}
+
+
+def picture(frames, end):
+    """A net's levels at the times before `end`."""
+    drawn, level = "", frames[0]
+    for time in range(end):
+        now = frames.get(time, level)
+        drawn += "_/\\-"[2 * level + now]
+        level = now
+    return drawn
+
+
+def draw(names, output):
+    """The lines of the wave program's output as a picture."""
+    if output[:1] and output[0].startswith("refused"):
+        return [output[0] + " (README.md has a table of the refusals)"]
+    if len(output) != len(names):
+        raise Fault(f"the text has {len(names)} nets, and the wave program printed {len(output)} lines")
+    waves = [frames_of(line) for line in output]
+    end, width = max(max(frames) for frames in waves) + 3, max(map(len, names))
+    ruler = "".join(f"{time:<5}" for time in range(0, end, 5)).rstrip()
+    return [f"    {'':{width}}  {ruler}"] + [
+        f"{net:3} {name:{width}}  {picture(frames, end)}" for net, (name, frames) in enumerate(zip(names, waves))
+    ]
+
+
+def main():
+    parser = argparse.ArgumentParser(description="Writes an input of the wave program from a text, on standard output.")
+    parser.add_argument("text", help="the text of the circuit, such as examples/first.txt")
+    parser.add_argument("--circuit", action="store_true", help="write the circuit file alone")
+    parser.add_argument("--draw", action="store_true", help="draw the wave program's output, read from standard input")
+    asked = parser.parse_args()
+    try:
+        with open(asked.text, encoding="utf-8-sig", errors="replace") as text:
+            inputs, gates = read_text(text.read().split("\n"))
+        if asked.draw:
+            print("\n".join(draw([net.name for net in inputs + gates], sys.stdin.read().splitlines())))
+        elif sys.stdout.isatty():
+            raise Fault("the output is no text: send it to a file with > FILE")
+        else:
+            sys.stdout.buffer.write((circuit_file if asked.circuit else wave_input)(inputs, gates))
+    except Fault as fault:
+        sys.exit(f"{asked.text}: {fault}")
+    except OSError as fault:
+        sys.exit(f"{asked.text}: {fault.strerror}")
+
+
+if __name__ == "__main__":
+    main()
