@@ -2,7 +2,7 @@
 -- `answer-fits` in Answering puts in the limits of an accepted circuit.
 -- Assumes nothing.
 use Prim.Native.Nat.{ℕ, zero, suc, _+_, _*_, _/_, _%_, _≤_}
-use mathlib.Core.Path.{_≡_, ap, _∙_}
+use mathlib.Core.Path.{ap, _∙_}
 use mathlib.Core.Bool.{Bool, true, false, cond}
 use mathlib.Core.List.{List, [], _∷_, _++_, flatten, zipWith}
 use native.Mathlib.Omega.{arith}
@@ -10,13 +10,12 @@ use lib.ListN.{length, length-append}
 use lib.Dec.{leb}
 use Rattle.lists.specs.Tables.{tabulate, tabulateFrom}
 use Rattle.lists.proofs.Flat.{flat-next}
-use Rattle.lists.proofs.Tabled.{from-length}
 use Rattle.method.specs.Circuit.{Circuit}
 use Rattle.method.specs.Frames.{framesAt}
-use Rattle.method.specs.Packed.{packedWord, packedValues}
+use Rattle.method.specs.Packed.{laneOf, packedValues}
 use Rattle.method.specs.Traces.{traceAt}
-use Rattle.method.specs.Packed.{laneOf}
 use Rattle.engine.specs.Values.{netCount, allValues}
+use Rattle.engine.proofs.Parts.{word-each}
 use Rattle.waveform.specs.Text.{glyph, digitAt, decimal, newline, equals, refusal}
 use Rattle.waveform.specs.Lines.{frameText, line, netLine, lines}
 
@@ -58,10 +57,6 @@ line-length net times levels =
     omega (arith, length-append (decimal net) (row ++ newline ∷ []), length-append row (newline ∷ []), decimal-length net, frames-length times levels)
 
 module _ (c : Circuit) (before after : List ℕ) where
-  values-length : (n : ℕ) → length (packedValues c before after n) ≡ length (framesAt c n .times)
-  unfolding packedValues
-  values-length n = from-length (length (framesAt c n .times)) 0 (packedWord c before after n)
-
   none : length (flatten (tabulate 0 (netLine c before after))) ≤ 6 * 0 + 8 * length (flatten (tabulate 0 (packedValues c before after)))
   unfolding tabulateFrom flatten
   none = omega arith
@@ -76,7 +71,7 @@ module _ (c : Circuit) (before after : List ℕ) where
         ap length (flat-next f n) ∙ length-append (flatten (tabulate n f)) (f n),
         ap length (flat-next g n) ∙ length-append (flatten (tabulate n g)) (g n),
         line-length n (framesAt c n .times) (traceAt c (laneOf 0 before after) n .values),
-        values-length n,
+        word-each c before after n,
         some-length n,
       )
 
