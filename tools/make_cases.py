@@ -238,22 +238,21 @@ def lanes_seen(times, values, time):
     return f"{level_at(times, values, time):016x} {summed(int(count_of(times, values, lane)) for lane in range(64))}"
 
 
-def answers(run, inputs, lengths, rubbish, net, lane, time, expectations):
+def answers(run, inputs, lengths, rubbish, net, time, expectations):
     """What is printed behind the reader's answer for an accepted file."""
     untouched = filled(lengths, rubbish)
     asked = 10 if lengths != RIGHT else 11 if [len(run.before), len(run.after)] != [inputs] * 2 else 0
     fault = asked or (0 if run.plan else 13)
-    ran = seen = marked = run_part(run, fault, untouched)
+    ran = marked = run_part(run, fault, untouched)
     looks = []
     if not fault:
         times, values = (run.times[net], run.values[net]) if net < len(run.nets) else ([], [])
         looks = [lanes_seen(times, values, time)]
-        seen = level_of(times, values, lane, time), ran[1]
     if not asked and not all(suits(e, inputs + len(run.records)) for e in expectations):
         marked = "refused 12", untouched
     elif not fault:
         marked = verdict(run, expectations), ran[1]
-    parts = [planned_part(run, lengths, untouched), (str(asked), untouched), ran, seen, marked]
+    parts = [planned_part(run, lengths, untouched), (str(asked), untouched), ran, marked]
     shown = [f"{answer} {' '.join(map(str, sums))}" for answer, sums in parts]
     return shown[:3] + looks + shown[3:]
 
@@ -263,10 +262,10 @@ def add(file, number, inputs, run, lengths=RIGHT, rubbish=None, net=0, lane=0, t
     rubbish = rng.randrange(65536) if rubbish is None else rubbish
     if number:
         line = [f"refused {number}"] + [f"{no} {' '.join(map(str, filled(lengths, rubbish)))}"
-                                        for no in (f"refused {number}", number) + (f"refused {number}",) * 3]
+                                        for no in (f"refused {number}", number) + (f"refused {number}",) * 2]
     else:
         line = [f"accepted {inputs} {len(run.records)}"]
-        line += answers(run, inputs, lengths, rubbish, net, lane, time, expectations)
+        line += answers(run, inputs, lengths, rubbish, net, time, expectations)
     data = b"c" + len(file).to_bytes(4, "little") + b"".join(map(two, lengths)) + two(rubbish)
     data += bytes([len(run.before), len(run.after)]) + two(net) + bytes([lane]) + two(time) + bytes([len(expectations)])
     data += file

@@ -2,11 +2,10 @@
 use crate::areas::fill_all;
 use crate::areas::show_sums;
 use crate::input::limited;
-use crate::looks::show_net;
 use crate::marks::mark_first;
 use crate::marks::show_marking;
+use crate::nets::show_net;
 use crate::print::show_planning;
-use crate::print::show_seen;
 use libc::STDOUT_FILENO;
 use marking::Expectation;
 use method::Net;
@@ -16,7 +15,6 @@ pub(crate) enum Call {
     Plan,
     Questions,
     Run,
-    Look,
     Mark,
 }
 
@@ -24,7 +22,6 @@ pub(crate) enum Call {
 pub(crate) struct Ask {
     pub(crate) rubbish: u16,
     pub(crate) net: Net,
-    pub(crate) lane: u8,
     pub(crate) time: Time,
     pub(crate) count: usize,
 }
@@ -103,14 +100,8 @@ fn show_run<'a>(
     after: &'a [u64],
     list: [Expectation; 12],
 ) -> bool {
-    let net = ask.net;
-    let time = ask.time;
     let count = limited(ask.count, 12);
     match call {
-        Call::Look => {
-            show_seen(engine::look(file, d, t, i, f, v, before, after, net, ask.lane, time));
-            false
-        }
         Call::Mark => {
             show_marking(mark_first(file, d, t, i, f, v, before, after, list, count));
             false

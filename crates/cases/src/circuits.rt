@@ -105,7 +105,6 @@ fn show_line<'a>(
     in_areas(Call::Plan, head, file, before, after, list);
     in_areas(Call::Questions, head, file, before, after, list);
     in_areas(Call::Run, head, file, before, after, list);
-    in_areas(Call::Look, head, file, before, after, list);
     in_areas(Call::Mark, head, file, before, after, list);
     io::write_all(STDOUT_FILENO, b"\n");
 }
@@ -114,7 +113,6 @@ fn ask_of(head: [u8; 24]) -> Ask {
     Ask {
         rubbish: circuit::number_at(&head, 14),
         net: Net(circuit::number_at(&head, 18)),
-        lane: head[20],
         time: Time(circuit::number_at(&head, 21)),
         count: expected(head),
     }

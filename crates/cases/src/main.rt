@@ -11,10 +11,9 @@
 // - what Run answers, as for Plan;
 // - where there was a run, what is seen of the net in its parts of the times and the values as Run left them: Level at the
 //   time in all lanes, as 16 hexadecimal digits in which bit L is lane L, and a sum of Count in lanes 0 to 63;
-// - what `look` answers for the net, the lane and the time, a level;
 // - what Mark answers for the expectations, `all met` or `unmet` with the position and the frame.
-// In each place `refused` with its number stands for a refusal. Behind the answers of Plan, Run's questions, Run, `look` and
-// Mark stands a sum of each of the five areas as that call leaves them. Before each of these calls every area is filled with
+// In each place `refused` with its number stands for a refusal. Behind the answers of Plan, Run's questions, Run and Mark
+// stands a sum of each of the five areas as that call leaves them. Before each of these calls every area is filled with
 // rubbish: entry k is (rubbish + 257 * k) % 65536, and word k of the values has that number in each of its four quarters.
 // A sum of numbers starts at 0, and each number x takes it to (17 * sum + x + 1) % 65521. Of the values it takes the four
 // quarters of each word, the lowest first.
@@ -30,8 +29,8 @@ mod areas;
 mod calls;
 mod circuits;
 mod input;
-mod looks;
 mod marks;
+mod nets;
 mod parts;
 mod print;
 

@@ -4,7 +4,7 @@ use crate::input::numbers_of;
 use crate::input::read_all;
 use crate::input::wide;
 use crate::input::words_of;
-use crate::looks::show_parts;
+use crate::nets::show_parts;
 use method::Time;
 
 // False where the case is cut short or too large; then nothing is printed.

@@ -1,8 +1,8 @@
 // Numbers and answers in print.
 use circuit::Reading;
-use engine::Counted;
-use engine::Seen;
 use libc::STDOUT_FILENO;
+use looks::Counted;
+use looks::Seen;
 use planner::Planning;
 
 pub(crate) fn show_number(n: u64) {

@@ -14,7 +14,7 @@ use Rattle.method.specs.Lanes.{AgreeIn}
 use Rattle.method.proofs.Lanes.{same-values}
 use Rattle.circuit.specs.File.{circuitOf}
 use Rattle.engine.specs.Areas.{Areas}
-use Rattle.engine.specs.Values.{netCount}
+use Rattle.method.specs.Values.{netCount}
 use Rattle.engine.specs.Questions.{areasSuit}
 use Rattle.engine.specs.After as engine
 use Rattle.engine.proofs.Asking.{passed-again}

@@ -12,19 +12,20 @@ use Rattle.method.specs.Words.{lane}
 use Rattle.circuit.specs.File.{circuitOf}
 use Rattle.circuit.specs.Questions as circuit
 use Rattle.circuit.proofs.Gated.{questions-numbered}
-use Rattle.planner.specs.Plan.{totalsOf, planOf}
+use Rattle.layout.specs.Sums.{totalsOf}
+use Rattle.planner.specs.Plan.{planOf}
 use Rattle.planner.specs.Questions as planner
-use Rattle.planner.specs.Layout.{laid}
-use Rattle.planner.specs.Areas as plan
+use Rattle.layout.specs.Layout.{laid}
+use Rattle.layout.specs.Areas as plan
 use Rattle.planner.proofs.Calling.{plan-numbered}
 use Rattle.engine.specs.Areas.{Areas, allCleared}
-use Rattle.engine.specs.Values.{netCount}
+use Rattle.method.specs.Values.{netCount}
 use Rattle.engine.specs.Questions as engine
 use Rattle.engine.specs.Run.{filled, runLeft, runOf}
-use Rattle.engine.specs.Look.{lookQuestions, levelOf, countOf}
+use Rattle.looks.specs.Look.{lookQuestions, levelOf, countOf}
 use Rattle.engine.specs.After.{After, Alike}
 use Rattle.engine.proofs.Answering.{all-numbered}
-use Rattle.engine.proofs.Seeing.{look-numbered}
+use Rattle.looks.proofs.Seeing.{look-numbered}
 use Rattle.engine.proofs.After.{after-runs, plan-left}
 use Rattle.marking.specs.declared.Expectation.{Expectation}
 use Rattle.marking.specs.Questions as marking

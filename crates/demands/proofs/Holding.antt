@@ -12,14 +12,14 @@ use Rattle.lists.specs.Outcome.{outcome}
 use Rattle.method.specs.Circuit.{Circuit}
 use Rattle.method.specs.Frames.{frames}
 use Rattle.circuit.specs.File.{circuitOf}
-use Rattle.planner.specs.declared.Totals.{Totals}
-use Rattle.planner.specs.Areas as plan
-use Rattle.planner.specs.Layout.{pairs, allTimes, allInertial, allFanins, laid}
+use Rattle.layout.specs.declared.Totals.{Totals}
+use Rattle.layout.specs.Areas as plan
+use Rattle.layout.specs.Layout.{pairs, allTimes, allInertial, allFanins, laid}
 use Rattle.planner.specs.Questions.{areasSuit}
 use Rattle.planner.specs.Plan.{planOf}
 use Rattle.planner.proofs.Calling.{suited, plan-accepted}
 use Rattle.engine.specs.Areas.{Areas}
-use Rattle.engine.specs.Values.{allValues}
+use Rattle.method.specs.Values.{allValues}
 use Rattle.engine.specs.Questions.{valuesLength, firstQuestions}
 use Rattle.engine.specs.Run.{filled}
 use Rattle.engine.specs.After as engine

@@ -18,7 +18,7 @@ use Rattle.method.proofs.Tracing.{value-each}
 use Rattle.method.proofs.Agreement.{agreement}
 use Rattle.circuit.specs.File.{circuitOf}
 use Rattle.engine.specs.Areas.{Areas}
-use Rattle.engine.specs.Values.{netCount}
+use Rattle.method.specs.Values.{netCount}
 use Rattle.engine.specs.After.{After, timesOf, levelIn}
 use Rattle.engine.proofs.After.{after-runs}
 use Rattle.marking.specs.declared.Expectation.{Expectation}

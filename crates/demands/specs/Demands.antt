@@ -22,16 +22,17 @@ use Rattle.method.specs.Agreement.{changedTimes, potential}
 use Rattle.method.specs.Lanes.{AgreeIn}
 use Rattle.circuit.specs.File.{circuitOf}
 use Rattle.circuit.specs.Questions as circuit
-use Rattle.planner.specs.declared.Totals.{Totals}
-use Rattle.planner.specs.Areas.{Areas as PlanAreas, allCleared as planCleared}
-use Rattle.planner.specs.Layout.{laid}
+use Rattle.layout.specs.declared.Totals.{Totals}
+use Rattle.layout.specs.Areas.{Areas as PlanAreas, allCleared as planCleared}
+use Rattle.layout.specs.Layout.{laid}
 use Rattle.planner.specs.Questions as planner
-use Rattle.planner.specs.Plan.{totalsOf, planOf}
+use Rattle.layout.specs.Sums.{totalsOf}
+use Rattle.planner.specs.Plan.{planOf}
 use Rattle.engine.specs.Areas.{Areas, allCleared}
-use Rattle.engine.specs.Values.{netCount, allValues}
+use Rattle.method.specs.Values.{netCount, allValues}
 use Rattle.engine.specs.Questions as engine
 use Rattle.engine.specs.Run.{filled, runOf}
-use Rattle.engine.specs.Look.{lookQuestions, levelOf, countOf}
+use Rattle.looks.specs.Look.{lookQuestions, levelOf, countOf}
 use Rattle.engine.specs.After.{timesOf, levelIn, countIn, NetParts, lastTime}
 use Rattle.marking.specs.declared.Expectation.{Expectation}
 use Rattle.marking.specs.Questions as marking

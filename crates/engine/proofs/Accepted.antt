@@ -16,12 +16,12 @@ use Rattle.method.specs.Circuit.{Circuit}
 use Rattle.method.specs.Frames.{frames}
 use Rattle.circuit.specs.File.{inputsOf, gatesOf, circuitOf}
 use Rattle.circuit.specs.Questions as reader
-use Rattle.planner.specs.Layout.{laid}
-use Rattle.planner.specs.Plan.{totalsOf}
+use Rattle.layout.specs.Layout.{laid}
+use Rattle.layout.specs.Sums.{fits, totalsOf}
 use Rattle.planner.specs.Questions as planner
 use Rattle.planner.proofs.Calling.{plan-kept}
 use Rattle.engine.specs.Areas.{Areas, allCleared}
-use Rattle.engine.specs.Values.{allValues}
+use Rattle.method.specs.Values.{allValues}
 use Rattle.engine.specs.Questions.{firstQuestions, questions}
 use Rattle.engine.specs.Run.{filled, runOf}
 use Rattle.engine.specs.After.{Ran}
@@ -41,15 +41,15 @@ module _ (file : List ℕ) (a : Areas) (before after : ℕ) (e : firstNo (questi
   unfolding reader.readOf reader.sizeOf
   file-read = unless-none (firstNo (reader.questions file)) (reader.sizeOf file) (yes-all .reads)
 
-  plan-fit : planner.fits (frames (circuitOf file)) ≡ true
-  plan-fit = asked (planner.fits (frames (circuitOf file))) 13 [] (λ z. omega arith) (parts .1) .0
+  plan-fit : fits (frames (circuitOf file)) ≡ true
+  plan-fit = asked (fits (frames (circuitOf file))) 13 [] (λ z. omega arith) (parts .1) .0
 
 -- ---- what it leaves
 
 -- the areas hold the plan and the packed values of an accepted file; `size` is how long the values area was
 pub record Held (file before after : List ℕ) (a : Areas) : Type 0 where
   pub read : reader.readOf file ≡ accepted (record { inputs = inputsOf file; gates = gatesOf file })
-  pub fit : planner.fits (frames (circuitOf file)) ≡ true
+  pub fit : fits (frames (circuitOf file)) ≡ true
   pub plan-is : a .plan ≡ laid (frames (circuitOf file)) (a .plan)
   pub size : ℕ
   pub values-are : a .values ≡ padded size (allValues (circuitOf file) before after)

@@ -26,19 +26,19 @@ use Rattle.method.proofs.Agreement.{agreement}
 use Rattle.method.proofs.Lanes.{in-lanes}
 use Rattle.circuit.specs.File.{circuitOf}
 use Rattle.circuit.proofs.Bounded.{time-small}
-use Rattle.planner.specs.Limits.{mostNetFrames}
-use Rattle.planner.specs.Areas as areas
-use Rattle.planner.specs.Layout.{laid, firstFrame, frameCount}
-use Rattle.planner.proofs.Fitting.{fits-total, fits-net}
-use Rattle.planner.proofs.Laying.{pair-first, pair-count, times-part, frames-end}
+use Rattle.method.specs.Limits.{mostNetFrames}
+use Rattle.layout.specs.Areas as areas
+use Rattle.layout.specs.Layout.{laid, firstFrame, frameCount}
+use Rattle.layout.proofs.Fitting.{fits-total, fits-net}
+use Rattle.layout.proofs.Laying.{pair-first, pair-count, times-part, frames-end}
 use Rattle.engine.specs.Areas.{Areas, allCleared}
-use Rattle.engine.specs.Values.{netCount}
+use Rattle.method.specs.Values.{netCount}
 use Rattle.engine.specs.Run.{runLeft, runOf}
-use Rattle.engine.specs.Look.{lookQuestions, levelOf, countOf}
+use Rattle.looks.specs.Look.{lookQuestions, levelOf, countOf}
 use Rattle.engine.specs.After.{Ran, NetParts, After, Alike, AfterRun, timesOf, valuesOf, levelIn, countIn, lastTime}
-use Rattle.engine.proofs.Seeing.{all-yes}
+use Rattle.looks.proofs.Seeing.{all-yes}
 use Rattle.engine.proofs.Accepted.{Held, held, filled-plan}
-use Rattle.engine.proofs.Parts.{nets-count, word-each, words-part}
+use Rattle.evaluation.proofs.Parts.{nets-count, word-each, words-part}
 use Rattle.circuit.proofs.Parts.{circuit-within}
 
 -- ---- a look at such parts is answered

@@ -1,33 +1,34 @@
 -- Run's ladder, and what a run leaves in the areas.
 -- Assumes nothing.
-use Prim.Native.Nat.{ℕ, _+_, _-_, _*_}
+use Prim.Native.Nat.{ℕ}
 use mathlib.Core.Path.{_≡_, refl, sym, ap, ap₂, _∙_}
 use mathlib.Core.Bool.{true, false}
-use mathlib.Core.List.{List, [], _++_}
+use mathlib.Core.List.{List, []}
 use native.Mathlib.Omega.{arith}
-use lib.ListN.{length, take, drop}
+use lib.ListN.{length}
 use Rattle.lists.specs.Ladder.{firstNo, Answer, unless}
 use Rattle.lists.specs.Outcome.{Outcome, outcome}
-use Rattle.lists.specs.Areas.{cleared}
+use Rattle.lists.specs.Areas.{cleared, padded}
 use Rattle.lists.proofs.Ladders.{Numbered, numbered-append, numbered-more, first, first-here, first-most, firstNo-append, ask-yes, ask-no, all-asked, unless-none, unless-some}
 use Rattle.lists.proofs.Leaving.{left-none, left-13, left-other}
 use Rattle.method.specs.Frames.{frames}
-use Rattle.circuit.specs.File.{inputsOf, gatesOf, circuitOf}
+use Rattle.method.specs.Values.{allValues}
+use Rattle.circuit.specs.File.{inputsOf, circuitOf}
 use Rattle.circuit.specs.Questions as reader
 use Rattle.circuit.proofs.Gated.{questions-numbered}
-use Rattle.planner.specs.declared.Totals.{Totals}
-use Rattle.planner.specs.declared.Planning.{Planning}
+use Rattle.layout.specs.declared.Totals.{Totals}
+use Rattle.layout.specs.declared.Progress.{Progress}
+use Rattle.layout.specs.declared.Progress.the-variants as P
 use Rattle.planner.specs.declared.Planning.the-variants as Q
-use Rattle.planner.specs.Questions.{fits, lastQuestion}
-use Rattle.planner.specs.Plan.{totalsOf, onPaper, planOf}
-use Rattle.planner.specs.Areas as planner
+use Rattle.layout.specs.Sums.{fits, totalsOf}
+use Rattle.layout.specs.Steps.{Filled}
+use Rattle.planner.specs.Questions.{lastQuestion}
+use Rattle.planner.specs.Plan.{onPaper}
+use Rattle.layout.specs.Areas as layout
 use Rattle.engine.specs.Areas.{Areas, areas, allCleared}
 use Rattle.engine.specs.Questions.{ownQuestions, firstQuestions, questions}
 use Rattle.engine.specs.Run.{filled, runLeft, runOf}
-use Rattle.engine.specs.Steps.{Asked, Holds, inputWords}
-use Rattle.engine.proofs.Asking.{passed}
-use Rattle.engine.proofs.Laid.{plan-13, plan-fits, plan-totals, plan-frames, words-fit, plan-laid}
-use Rattle.engine.proofs.Valued.{holds-inputs, values-are, rest-cleared}
+use Rattle.engine.specs.Steps.{Asked}
 
 -- ---- the ladder
 
@@ -91,24 +92,19 @@ module _ (file before after : List ℕ) (a : Areas) where
         let m : firstNo (questions file a (length before) (length after)) ≡ 0 = at-last ∙ ask-yes (fits (frames (circuitOf file))) 13 [] y ∙ all-asked in
         sym (ran m ∙ rw (unless-none 0 (totalsOf (frames (circuitOf file))) refl, left-none (filled (circuitOf file) before after a) (allCleared a) a))
 
--- ---- planned, and then evaluated or cleared
+-- ---- filled, and then evaluated or cleared
 
-module _ (file before after : List ℕ) {d t i f v : List ℕ} (h : Asked file (areas d t i f v) (length before) (length after)) {d′ t′ i′ f′ : List ℕ} {r : Planning}
-    (e : outcome (onPaper r) (planner.areas d′ t′ i′ f′) ≡ planOf file (planner.areas d t i f)) where
-  pub simulate-13 : {n : ℕ} → r ≡ Q.Refused n → {v′ : List ℕ} → v′ ≡ cleared v → outcome (onPaper (Q.Refused n)) (areas d′ t′ i′ f′ v′) ≡ runOf file before after (areas d t i f v)
+module _ (file before after : List ℕ) {d t i f v : List ℕ} (h : Asked file (areas d t i f v) (length before) (length after)) {d′ t′ i′ f′ : List ℕ} {r : Progress}
+    (e : Filled file (layout.areas d t i f) (layout.areas d′ t′ i′ f′) r) where
+  pub simulate-13 : r ≡ P.TooMany → {v′ : List ℕ} → v′ ≡ cleared v → outcome (onPaper (Q.Refused 13)) (areas d′ t′ i′ f′ v′) ≡ runOf file before after (areas d t i f v)
   unfolding allCleared
-  simulate-13 {n} q {v′} z =
-      let s = plan-13 file h e q in
-      rw (s .0) (ap₂ (λ (x : planner.Areas) (y : List ℕ). outcome (onPaper (Q.Refused 13)) (record { plan = x; values = y })) (s .2) z ∙ run-13 file before after (areas d t i f v) h (s .1))
+  simulate-13 q z =
+      ap₂ (λ (x : layout.Areas) (y : List ℕ). outcome (onPaper (Q.Refused 13)) (record { plan = x; values = y })) (e .emptied q) z
+      ∙ run-13 file before after (areas d t i f v) h (e .stopped q)
 
-  module _ {totals : Totals} (q : r ≡ Q.Planned totals) {inputs gates : ℕ} (ni : inputs ≡ inputsOf file) (ng : gates ≡ gatesOf file) where
-    pub simulate-yes : {v1 v2 ys : List ℕ} → take (2 * length before) v1 ≡ inputWords before after (length before)
-        → ((b a : List ℕ) → Holds file b a inputs v1 → Holds file b a (inputs + gates) v2)
-        → length v2 ≡ length v → ys ≡ cleared (take (length v2 - totals .frames) (drop (totals .frames) v2))
-        → outcome (onPaper (Q.Planned totals)) (areas d′ t′ i′ f′ (take (totals .frames) v2 ++ (ys ++ drop (length v2 - totals .frames) (drop (totals .frames) v2)))) ≡ runOf file before after (areas d t i f v)
-    unfolding filled
-    simulate-yes {v1} {v2} {ys} w g l z =
-        let all = values-are file before after ni ng (g before after (holds-inputs file before after ni (passed file (areas d t i f v) (length before) (length after) (h .none) .before-each) w)) in
-        let values = rest-cleared v2 (totals .frames) l (words-fit file h e q) (rw (← plan-frames file h e q) at all) z in
-        ap₂ (λ (x : planner.Areas) (y : List ℕ). outcome (onPaper (Q.Planned totals)) (record { plan = x; values = y })) (plan-laid file h e q) values
-        ∙ rw (plan-totals file h e q) (run-yes file before after (areas d t i f v) h (plan-fits file h e q))
+  pub simulate-yes : {totals : Totals} → r ≡ P.Planned totals → {v′ : List ℕ} → v′ ≡ padded (length v) (allValues (circuitOf file) before after)
+      → outcome (onPaper (Q.Planned totals)) (areas d′ t′ i′ f′ v′) ≡ runOf file before after (areas d t i f v)
+  unfolding filled
+  simulate-yes {totals} q w =
+      ap₂ (λ (x : layout.Areas) (y : List ℕ). outcome (onPaper (Q.Planned totals)) (record { plan = x; values = y })) (e .filled totals q) w
+      ∙ rw (e .totals totals q) (run-yes file before after (areas d t i f v) h (e .fit totals q))

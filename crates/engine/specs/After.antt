@@ -18,13 +18,14 @@ use Rattle.method.specs.Packed.{laneOf, packedValues}
 use Rattle.method.specs.Agreement.{changedTimes, potential}
 use Rattle.method.specs.Lanes.{AgreeIn}
 use Rattle.circuit.specs.File.{circuitOf}
-use Rattle.planner.specs.declared.Totals.{Totals}
-use Rattle.planner.specs.Limits.{mostNetFrames, mostTotalFrames}
-use Rattle.planner.specs.Layout.{firstFrame, frameCount, partOf}
+use Rattle.layout.specs.declared.Totals.{Totals}
+use Rattle.method.specs.Limits.{mostNetFrames}
+use Rattle.layout.specs.Limits.{mostTotalFrames}
+use Rattle.layout.specs.Layout.{firstFrame, frameCount, partOf}
 use Rattle.engine.specs.Areas.{Areas}
-use Rattle.engine.specs.Values.{netCount}
+use Rattle.method.specs.Values.{netCount}
 use Rattle.engine.specs.Run.{runOf}
-use Rattle.engine.specs.Look.{levelOf, countOf}
+use Rattle.looks.specs.Look.{levelOf, countOf}
 
 -- `left` is what an accepted Run of the file with these words leaves: it answered totals, and its areas held something
 pub record Ran (file before after : List ℕ) (left : Areas) : Type 0 where

@@ -8,11 +8,11 @@ use Rattle.lists.specs.Areas.{padded}
 use Rattle.method.specs.Circuit.{Circuit}
 use Rattle.method.specs.Frames.{frames}
 use Rattle.circuit.specs.File.{circuitOf}
-use Rattle.planner.specs.declared.Totals.{Totals}
-use Rattle.planner.specs.Layout.{laid}
-use Rattle.planner.specs.Plan.{totalsOf}
+use Rattle.layout.specs.declared.Totals.{Totals}
+use Rattle.layout.specs.Layout.{laid}
+use Rattle.layout.specs.Sums.{totalsOf}
 use Rattle.engine.specs.Areas.{Areas, allCleared}
-use Rattle.engine.specs.Values.{allValues}
+use Rattle.method.specs.Values.{allValues}
 use Rattle.engine.specs.Questions.{questions}
 
 -- areas as long as these, filled with the plan of a circuit, as Plan fills them, and with its packed values; the rest is 0

@@ -9,8 +9,7 @@ ghost use Rattle.engine.specs.Areas.{areas};
 ghost use Rattle.engine.specs.Questions.{ownQuestions};
 ghost use Rattle.engine.specs.Run.{runOf};
 ghost use Rattle.engine.specs.Steps.{Asked};
-use crate::gates::all_gates;
-use crate::gates::input_words;
+use layout::Progress;
 use planner::Planning;
 
 const VALUES_LENGTH: usize = 2048;
@@ -60,17 +59,24 @@ pub(crate) fn simulate(
     requires { ⌜ Asked (now file) (areas (now directory) (now times) (now inertial) (now fanins) (now values)) (length (now before)) (length (now after)) × (inputs ≡ inputsOf (now file)) × (gates ≡ gatesOf (now file)) ⌝ }
     ensures { λ r. ⌜ outcome (onPaper r) (areas (now (directory .exit)) (now (times .exit)) (now (inertial .exit)) (now (fanins .exit)) (now (values .exit))) ≡ runOf (now (file .entry)) (now (before .entry)) (now (after .entry)) (areas (now (directory .entry)) (now (times .entry)) (now (inertial .entry)) (now (fanins .entry)) (now (values .entry))) ⌝ }
 {
-    match planner::plan(file, directory, times, inertial, fanins) {
-        Planning::Refused(n) => {
-            lists::clear_words(values);
-            Planning::Refused(n)
+    match layout::fill(file, inputs, gates, directory, times, inertial, fanins) {
+        Progress::TooMany => {
+            slices::clear_words(values);
+            Planning::Refused(13)
         }
-        Planning::Planned(t) => {
-            let frames = t.frames as usize;
-            input_words(values, before, after);
-            all_gates(file, directory, inertial, fanins, values, inputs, gates);
-            let end = values.len();
-            lists::clear_words(&mut values[frames..end]);
+        Progress::Planned(t) => {
+            evaluation::evaluate(
+                file,
+                inputs,
+                gates,
+                t.frames,
+                directory,
+                inertial,
+                fanins,
+                values,
+                before,
+                after,
+            );
             Planning::Planned(t)
         }
     }

@@ -15,7 +15,7 @@ use Rattle.circuit.specs.File.{circuitOf}
 use Rattle.circuit.specs.Questions.{readOf, sizeOf}
 use Rattle.circuit.proofs.Parts.{circuit-inputs, gates-length}
 use Rattle.engine.specs.Areas.{Areas, allCleared}
-use Rattle.engine.specs.Values.{netCount}
+use Rattle.method.specs.Values.{netCount}
 use Rattle.engine.specs.Questions.{firstQuestions}
 use Rattle.engine.specs.Run.{filled, runLeft}
 use Rattle.engine.specs.After.{Ran}

@@ -9,7 +9,7 @@ use Rattle.method.specs.Words.{lanes}
 use Rattle.circuit.specs.File.{circuitOf}
 use Rattle.planner.specs.Questions.{lastQuestion}
 use Rattle.engine.specs.Areas.{Areas}
-use Rattle.engine.specs.Values.{netCount}
+use Rattle.method.specs.Values.{netCount}
 use Rattle.engine.specs.Questions.{firstQuestions}
 use Rattle.marking.specs.declared.Expectation.{Expectation}
 

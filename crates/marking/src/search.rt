@@ -1,14 +1,14 @@
 // The search for the first expectation that a run does not meet.
 ghost use mathlib.Core.Path.{_≡_};
 ghost use Rattle.lists.specs.Ladder.{accepted};
-ghost use Rattle.planner.specs.Layout.{frameCount};
+ghost use Rattle.layout.specs.Layout.{frameCount};
 ghost use Rattle.marking.specs.Mark.{onPaper};
 ghost use Rattle.marking.specs.Steps.{breaksAt, searched};
 use crate::Expectation;
 use crate::Marking;
-use lists::entry_at;
-use lists::word_at;
 use method::Frame;
+use slices::entry_at;
+use slices::word_at;
 
 // How many frames the net of an expectation has.
 pub(crate) fn frame_count<'a>(e: Expectation, directory: &'a [u16]) -> u16

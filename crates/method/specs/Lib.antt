@@ -11,11 +11,13 @@ pub mod Frames
 pub mod Filter
 pub mod Traces
 pub mod Look
+pub mod Limits
 -- The machine that knows none of these.
 pub mod Machine
 -- 64 lanes in a word.
 pub mod Words
 pub mod Packed
+pub mod Values
 -- What holds: proved under proofs/.
 pub mod Bench
 pub mod Netwise

@@ -1,7 +1,7 @@
 // A net's changes in all lanes, printed.
 ghost use Prim.Native.Nat.{_<_, _≤_};
-use engine::Counted;
 use libc::STDOUT_FILENO;
+use looks::Counted;
 use method::Net;
 use method::Time;
 
@@ -114,7 +114,7 @@ fn changes(times: &[u16], values: &[u64]) -> u64 {
 fn changes_in(times: &[u16], values: &[u64], lane: u8) -> u64
     ensures { λ r. ⌜ r < 65536 ⌝ }
 {
-    match engine::count(times, values, lane) {
+    match looks::count(times, values, lane) {
         Counted::Changes(changes) => changes as u64,
         Counted::Refused(_) => 65535,
     }

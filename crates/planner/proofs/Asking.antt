@@ -1,4 +1,4 @@
--- Question 10 and the clearing of all areas, as the functions do them.
+-- Question 10, as it is asked.
 -- Assumes nothing.
 use Prim.Native.Nat.{ℕ}
 use mathlib.Core.Path.{_≡_}
@@ -7,9 +7,8 @@ use mathlib.Core.List.{List}
 use lib.Dec.{eqb}
 use lib.ListN.{length}
 use borrow.Author.Tests.{eq-eqb, ne-eqb}
-use Rattle.lists.specs.Areas.{cleared}
 use Rattle.planner.specs.Limits.{directoryLength, timesLength, faninsLength}
-use Rattle.planner.specs.Areas.{areas, allCleared}
+use Rattle.layout.specs.Areas.{areas}
 use Rattle.planner.specs.Questions.{areasSuit}
 
 module _ (d t i f : List ℕ) where
@@ -30,8 +29,3 @@ module _ (d t i f : List ℕ) where
       pub fanins-last : length i ≡ timesLength → eqb (length f) faninsLength ≡ areasSuit (areas d t i f)
       unfolding areasSuit
       fanins-last y3 = simp (eq-eqb _ _ y1, eq-eqb _ _ y2, eq-eqb _ _ y3)
-
-pub all-cleared : (d t i f : List ℕ) {d′ t′ i′ f′ : List ℕ} → d′ ≡ cleared d → t′ ≡ cleared t → i′ ≡ cleared i → f′ ≡ cleared f
-    → areas d′ t′ i′ f′ ≡ allCleared (areas d t i f)
-unfolding allCleared
-all-cleared d t i f a b c g = cc

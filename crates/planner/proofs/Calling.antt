@@ -1,4 +1,4 @@
--- The plan as a whole: all gates tried, and the ladder of Plan's questions.
+-- The plan as a whole: room for it, and the ladder of Plan's questions.
 -- Assumes nothing.
 use Prim.Native.Nat.{ℕ, _≤_}
 use mathlib.Core.Path.{_≡_, refl, sym, _∙_}
@@ -13,63 +13,30 @@ use Rattle.lists.specs.Outcome.{leftBy, outcome}
 use Rattle.lists.proofs.Choices.{and-left, and-right}
 use Rattle.lists.proofs.Ladders.{Numbered, numbered-append, numbered-more, first, first-here, first-none, first-most, firstNo-append, asked, ask-yes, ask-no, all-asked, accepted-none, refused-some, unless-none, unless-some}
 use Rattle.lists.proofs.Leaving.{left-none, left-13, left-other, accepted-left}
-use Rattle.method.specs.Frames.{Frames, frames}
+use Rattle.method.specs.Frames.{frames}
 use Rattle.circuit.specs.File.{inputsOf, gatesOf, circuitOf}
 use Rattle.circuit.specs.declared.Reading.{Reading}
 use Rattle.circuit.specs.declared.Reading.the-variants as R
 use Rattle.circuit.specs.Questions as reader
 use Rattle.circuit.proofs.Gated.{questions-numbered}
 use Rattle.circuit.proofs.Parts.{gates-length, inputs-are, gates-are, few}
-use Rattle.planner.specs.declared.Totals.{Totals}
-use Rattle.planner.specs.declared.Progress.{Progress}
-use Rattle.planner.specs.declared.Progress.the-variants as P
+use Rattle.layout.specs.declared.Totals.{Totals}
+use Rattle.layout.specs.declared.Progress.{Progress}
+use Rattle.layout.specs.declared.Progress.the-variants as P
 use Rattle.planner.specs.declared.Planning.the-variants as Q
-use Rattle.planner.specs.Limits.{mostTotalFrames, directoryLength, timesLength, faninsLength}
-use Rattle.planner.specs.Areas.{Areas, allCleared}
-use Rattle.planner.specs.Layout.{allTimes, laid}
-use Rattle.planner.specs.Questions.{areasSuit, fits, lastQuestion, ownQuestions, questions}
-use Rattle.planner.specs.Plan.{totalsOf, planOf, onPaper}
-use Rattle.planner.specs.Steps.{framesOf, Given, Reached, Filled, Room}
-use Rattle.planner.proofs.Laying.{laid-kept}
-use Rattle.planner.proofs.Prefix.{frames-all}
-use Rattle.planner.proofs.Fitting.{fits-total}
-use Rattle.planner.proofs.Accepted.{nets-count, nets-sized}
-use Rattle.planner.proofs.Stepping.{never, Alike}
-
--- ---- all gates
-
-laid-alike : (fs : List Frames) {a a′ : Areas} → Alike a a′ → laid fs a′ ≡ laid fs a
-unfolding laid
-laid-alike fs l = rw (l .directory, l .times, l .inertial, l .fanins)
-
-cleared-alike : {a a′ : Areas} → Alike a a′ → allCleared a′ ≡ allCleared a
-unfolding allCleared
-cleared-alike l = rw (l .directory, l .times, l .inertial, l .fanins)
-
-module _ (file : List ℕ) {gates : ℕ} (all : gates ≡ gatesOf file) {a′ : Areas} {r : Progress} (h : Reached file gates a′ r) where
-  nets-all : framesOf file gates ≡ frames (circuitOf file)
-  nets-all = frames-all (circuitOf file) gates (all ∙ sym (gates-length file))
-
-  pub filled-now : {a : Areas} (t : Totals) → r ≡ P.Planned t → Alike a a′ → Filled file a a′ (P.Planned t)
-  filled-now t e l =
-      let o = h .planned t e in
-      record {
-        fit = λ u q. rw nets-all at (o .fit);
-        totals = λ u q. (let s : u ≡ t = cc in s ∙ (rw nets-all at (o .totals)));
-        filled = λ u q. (rw nets-all at (o .is)) ∙ laid-alike (frames (circuitOf file)) l;
-        stopped = λ q. absurd (never q);
-        emptied = λ q. absurd (never q);
-      }
-
-  pub filled-none : r ≡ P.TooMany → {a b : Areas} → b ≡ allCleared a′ → Alike a a′ → Filled file a b P.TooMany
-  filled-none e c l =
-      record {
-        fit = λ u q. absurd (never (sym q));
-        totals = λ u q. absurd (never (sym q));
-        filled = λ u q. absurd (never (sym q));
-        stopped = λ q. rw nets-all at (h .stopped e);
-        emptied = λ q. c ∙ cleared-alike l;
-      }
+use Rattle.layout.specs.Limits.{mostTotalFrames}
+use Rattle.planner.specs.Limits.{directoryLength, timesLength, faninsLength}
+use Rattle.layout.specs.Areas.{Areas, allCleared}
+use Rattle.layout.specs.Layout.{allTimes, laid}
+use Rattle.layout.specs.Sums.{fits}
+use Rattle.planner.specs.Questions.{areasSuit, lastQuestion, ownQuestions, questions}
+use Rattle.layout.specs.Sums.{totalsOf}
+use Rattle.planner.specs.Plan.{planOf, onPaper}
+use Rattle.layout.specs.Steps.{framesOf, Given, Filled, Room}
+use Rattle.layout.proofs.Laying.{laid-kept}
+use Rattle.layout.proofs.Prefix.{frames-all}
+use Rattle.layout.proofs.Fitting.{fits-total}
+use Rattle.layout.proofs.Accepted.{nets-count, nets-sized}
 
 -- ---- question 10 gives room for every plan that fits
 
@@ -84,7 +51,7 @@ suited a e =
       eqb-true _ _ (and-right (eqb (length (a .inertial)) timesLength) _ e3),
     )
 
-given-all : (file : List ℕ) (a : Areas) → reader.readOf file ≡ accepted (record { inputs = inputsOf file; gates = gatesOf file }) → areasSuit a ≡ true → Given file a
+pub given-all : (file : List ℕ) (a : Areas) → reader.readOf file ≡ accepted (record { inputs = inputsOf file; gates = gatesOf file }) → areasSuit a ≡ true → Given file a
 given-all file a e y =
     let l = suited a y in
     let n = few file e in

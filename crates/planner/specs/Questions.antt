@@ -1,17 +1,16 @@
 -- Plan's questions in their order: the reader's 1 to 9, then 10 and 13.
 use Prim.Native.Nat.{ℕ}
 use mathlib.Core.Bool.{Bool, _&&_}
-use mathlib.Core.List.{List, [], _∷_, _++_, map}
+use mathlib.Core.List.{List, [], _∷_, _++_}
 use lib.ListN.{length}
-use lib.Dec.{leb, eqb}
+use lib.Dec.{eqb}
 use Rattle.lists.specs.Ladder.{Question, _orElse_}
-use Rattle.lists.specs.Tables.{every}
-use Rattle.method.specs.Frames.{Frames, frames}
+use Rattle.method.specs.Frames.{frames}
 use Rattle.circuit.specs.File.{circuitOf}
 use Rattle.circuit.specs.Questions as reader
-use Rattle.planner.specs.Limits.{mostNetFrames, mostTotalFrames, directoryLength, timesLength, faninsLength}
-use Rattle.planner.specs.Areas.{Areas}
-use Rattle.planner.specs.Layout.{allTimes}
+use Rattle.layout.specs.Sums.{fits}
+use Rattle.planner.specs.Limits.{directoryLength, timesLength, faninsLength}
+use Rattle.layout.specs.Areas.{Areas}
 
 -- 10: Are the areas of exactly these lengths: directory 320, times 2,048, inertial 2,048, fan-in 16,384?
 unfoldable pub areasSuit : Areas → Bool
@@ -19,11 +18,6 @@ areasSuit a =
     eqb (length (a .directory)) directoryLength
     && (eqb (length (a .times)) timesLength
     && (eqb (length (a .inertial)) timesLength && eqb (length (a .fanins)) faninsLength))
-
--- 13: Has every net at most 64 frames, and all nets together at most 2,048?
-unfoldable pub fits : List Frames → Bool
-fits fs =
-    every (map (λ (f : Frames). leb (length (f .times)) mostNetFrames) fs) && leb (length (allTimes fs)) mostTotalFrames
 
 -- the last question of every call that plans
 abbrev pub lastQuestion : List ℕ → List Question

@@ -22,21 +22,22 @@ use Rattle.circuit.proofs.Accepted.{Head, passed}
 use Rattle.circuit.proofs.Parts.{circuit-inputs, gates-length}
 use Rattle.planner.specs.declared.Planning.{Planning}
 use Rattle.planner.specs.declared.Planning.the-variants as Q
-use Rattle.planner.specs.declared.Totals.{Totals}
+use Rattle.layout.specs.declared.Totals.{Totals}
 use Rattle.planner.specs.Plan.{onPaper}
 use Rattle.method.specs.Frames.{frames}
-use Rattle.planner.specs.Questions.{fits, lastQuestion}
+use Rattle.layout.specs.Sums.{fits}
+use Rattle.planner.specs.Questions.{lastQuestion}
 use Rattle.planner.specs.Questions as planner
-use Rattle.planner.proofs.Fitting.{fits-total}
+use Rattle.layout.proofs.Fitting.{fits-total}
 use Rattle.engine.specs.Areas.{Areas, areas}
 use Rattle.engine.specs.Questions as engine
 use Rattle.engine.specs.Run.{runOf}
-use Rattle.engine.specs.Values.{netCount}
+use Rattle.method.specs.Values.{netCount}
 use Rattle.engine.specs.After.{Ran}
 use Rattle.engine.proofs.Accepted.{held, none}
 use Rattle.engine.proofs.After.{after-runs}
 use Rattle.engine.proofs.Answering.{run-is}
-use Rattle.engine.proofs.Parts.{all-words}
+use Rattle.evaluation.proofs.Parts.{all-words}
 use Rattle.waveform.specs.Input.{wordsFrom, beforeWords, afterWords, questions}
 use Rattle.waveform.specs.Text.{refusal}
 use Rattle.waveform.specs.Lines.{lines}

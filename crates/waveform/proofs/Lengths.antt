@@ -14,8 +14,8 @@ use Rattle.method.specs.Circuit.{Circuit}
 use Rattle.method.specs.Frames.{framesAt}
 use Rattle.method.specs.Packed.{laneOf, packedValues}
 use Rattle.method.specs.Traces.{traceAt}
-use Rattle.engine.specs.Values.{netCount, allValues}
-use Rattle.engine.proofs.Parts.{word-each}
+use Rattle.method.specs.Values.{netCount, allValues}
+use Rattle.evaluation.proofs.Parts.{word-each}
 use Rattle.waveform.specs.Text.{glyph, digitAt, decimal, newline, equals, refusal}
 use Rattle.waveform.specs.Lines.{frameText, line, netLine, lines}
 

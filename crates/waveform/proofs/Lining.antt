@@ -19,10 +19,10 @@ use Rattle.method.proofs.Bits.{getD-lane}
 use Rattle.method.proofs.Tracing.{value-each}
 use Rattle.method.proofs.Lanes.{in-lanes}
 use Rattle.circuit.specs.File.{circuitOf}
-use Rattle.planner.specs.Layout.{firstFrame, frameCount, partOf}
-use Rattle.planner.proofs.Spans.{part-entry}
+use Rattle.layout.specs.Layout.{firstFrame, frameCount, partOf}
+use Rattle.layout.proofs.Spans.{part-entry}
 use Rattle.engine.specs.Areas.{Areas}
-use Rattle.engine.specs.Values.{netCount}
+use Rattle.method.specs.Values.{netCount}
 use Rattle.engine.specs.After.{After}
 use Rattle.waveform.specs.Text.{newline, decimal}
 use Rattle.waveform.specs.Lines.{frameText, line, netLine, lines}

@@ -7,7 +7,7 @@ use Rattle.method.specs.Circuit.{Circuit}
 use Rattle.method.specs.Frames.{framesAt}
 use Rattle.method.specs.Traces.{traceAt}
 use Rattle.method.specs.Packed.{laneOf}
-use Rattle.engine.specs.Values.{netCount}
+use Rattle.method.specs.Values.{netCount}
 use Rattle.waveform.specs.Text.{blank, newline, equals, glyph, decimal}
 
 -- a frame: a blank and time=level

@@ -32,8 +32,8 @@ fn put_frames(
     let mut k: u16 = 0;
     while k < frames {
         let place = first as usize + k as usize;
-        let level = words::bit_of(lists::word_at(values, place), 0);
-        end = put_frame(output, end, Time(lists::entry_at(times, place)), level);
+        let level = words::bit_of(slices::word_at(values, place), 0);
+        end = put_frame(output, end, Time(slices::entry_at(times, place)), level);
         k += 1;
     }
     end
@@ -51,8 +51,8 @@ fn put_net(
     ensures { λ r. ⌜ Wrote (now (output .entry)) at (areaLine (now (directory .entry)) (now (times .entry)) (now (values .entry)) (net .0)) (now (output .exit)) r ⌝ }
 {
     let pair = 2 * (net.0 as usize);
-    let first = lists::entry_at(directory, pair);
-    let frames = lists::entry_at(directory, pair + 1);
+    let first = slices::entry_at(directory, pair);
+    let frames = slices::entry_at(directory, pair + 1);
     let a = put_number(output, at, net.0);
     let b = put_frames(output, a, times, values, first, frames);
     put_newline(output, b)

@@ -1,0 +1,8 @@
+-- Laws of evaluation: raw words, the places of nets in the areas, gate by gate, and the values area as a whole.
+pub mod Tally
+pub mod Writing
+pub mod Driving
+pub mod Placing
+pub mod Parts
+pub mod Valued
+pub mod Gating

@@ -1,0 +1,52 @@
+-- `evaluate` meets its contract: the inputs, then the gates, then zeros.
+-- Assumes nothing.
+use native.Mathlib.Omega.{arith}
+use Rattle.evaluation.proofs.Valued.{evaluated}
+use borrow.Author.Needs.{needs}
+use Rattle.evaluation.proofs.evaluate.Statement.{statement}
+use Rattle.evaluation.proofs.evaluate.Tie as tie
+
+input-words-requires : tie.Need-input-words-requires
+input-words-requires c κs = search needs
+
+all-gates-requires : tie.Need-all-gates-requires
+all-gates-requires c κs = search needs
+
+mul-clear-words : tie.Need-mul-clear-words
+mul-clear-words c = search needs
+
+sub-clear-words : tie.Need-sub-clear-words
+sub-clear-words c = search needs
+
+part-clear-words-start : tie.Need-part-clear-words-start
+part-clear-words-start c = search needs
+
+part-clear-words-end : tie.Need-part-clear-words-end
+part-clear-words-end c = search needs
+
+clear-words-requires : tie.Need-clear-words-requires
+clear-words-requires c κs = search needs
+
+same-length : tie.Need-same-length
+same-length c = search needs
+
+returns : tie.Need-returns
+returns c =
+    let s = c .before .before .before .before .before .before .before .before .before .before .before .before .before .before .before .before .before .before .before in
+    let inputs = c .before .before .before .before .before .before .before .before .before .before .input-words in
+    let gates = c .before .before .before .before .before .before .all-gates in
+    evaluated _ _ _ (s .pre .0 .1) (s .pre .0 .2) (s .pre .1) (inputs .ensures) (gates .ensures) (omega (arith, gates .kept, inputs .kept)) (c .before .before .clear-words .ensures)
+
+pub evaluate-spec : {M : Type 1} → statement M
+evaluate-spec =
+    tie.close
+    (tie.spec
+    input-words-requires
+    all-gates-requires
+    mul-clear-words
+    sub-clear-words
+    part-clear-words-start
+    part-clear-words-end
+    clear-words-requires
+    same-length
+    returns)

@@ -1,0 +1,66 @@
+-- `evaluation::rows::one_of` meets its contract. After e entries the tally is that of their words.
+-- Assumes nothing.
+use Prim.Native.Nat.{_-_, _≤_}
+use mathlib.Core.Path.{_≡_}
+use native.Mathlib.Omega.{arith}
+use native.Mathlib.Numerals.{add-one}
+use Rattle.lists.specs.Tables.{tabulateFrom}
+use Rattle.lists.proofs.Tabled.{tabulate-snoc}
+use Rattle.evaluation.specs.Steps.{sources}
+use Rattle.evaluation.proofs.Tally.{Tally, tally-none, tally-more, tally-one}
+use Rattle.evaluation.proofs.Writing.{row-points}
+use borrow.Author.Needs.{needs}
+use Rattle.evaluation.proofs.rows.one_of.Statement.{statement}
+use Rattle.evaluation.proofs.rows.one_of.Tie as tie
+
+abbrev Inv-loop : tie.InvT-loop
+Inv-loop values bases fanins at entries one₀ more₀ e₀ one more e = (e ≤ entries) × Tally (sources values bases fanins at e) one more
+
+abbrev μ-loop : tie.MeasureT-loop
+μ-loop values bases fanins at entries one₀ more₀ e₀ one more e = entries - e
+
+loop-holds : tie.Need-loop-holds Inv-loop μ-loop
+unfolding tabulateFrom
+loop-holds c = (omega arith, tally-none)
+
+mul-source : tie.Need-mul-source Inv-loop μ-loop
+mul-source c = search needs
+
+element-copy-out-source : tie.Need-element-copy-out-source Inv-loop μ-loop
+element-copy-out-source c = omega (arith, c .before .before .before .before .pre .few)
+
+add-source : tie.Need-add-source Inv-loop μ-loop
+add-source c = omega (arith, c .before .before .before .before .before .pre .within)
+
+source-requires : tie.Need-source-requires Inv-loop μ-loop
+source-requires c κs = row-points (c .before .before .before .before .before .pre) (c .before .before .loop .e) (c .before .loop-test .taken)
+
+add-e : tie.Need-add-e Inv-loop μ-loop
+add-e c = search needs
+
+loop-less : tie.Need-loop-less Inv-loop μ-loop
+loop-less c = search needs
+
+loop-again : tie.Need-loop-again Inv-loop μ-loop
+loop-again c = (omega arith, rw (add-one (c .before .before .before .loop .e), tabulate-snoc (c .before .before .before .loop .e) _, c .source .ensures) (tally-more (c .before .before .before .loop .inv .1) _))
+
+returns : tie.Need-returns Inv-loop μ-loop
+returns c =
+    let q : c .before .loop .e ≡ c .before .before .before .before .args .entries = omega arith in
+    tally-one (rw q at (c .before .loop .inv .1))
+
+pub one-of-spec : {M : Type 1} → statement M
+one-of-spec =
+    tie.close
+    (tie.spec
+    Inv-loop
+    μ-loop
+    loop-holds
+    mul-source
+    element-copy-out-source
+    add-source
+    source-requires
+    add-e
+    loop-less
+    loop-again
+    returns)

@@ -1,0 +1,38 @@
+// The words of all nets, from a plan in the areas. An inner crate: its function asks its caller for what it needs.
+ghost use mathlib.Core.Path.{_≡_};
+ghost use lib.ListN.{length};
+ghost use Rattle.lists.specs.Areas.{padded};
+ghost use Rattle.method.specs.Values.{allValues};
+ghost use Rattle.circuit.specs.File.{inputsOf, gatesOf, circuitOf};
+ghost use Rattle.evaluation.specs.Steps.{Driven, Planned};
+
+mod gates;
+mod rows;
+
+use gates::all_gates;
+use gates::input_words;
+
+// Writes the words of all nets from their plan, which has `total` frames, and the words of the inputs. What is behind the
+// last frame is 0.
+pub fn evaluate(
+    file: &[u8],
+    inputs: u16,
+    gates: u16,
+    total: u16,
+    directory: &[u16],
+    inertial: &[u16],
+    fanins: &[u16],
+    values: &mut [u64],
+    before: &[u64],
+    after: &[u64],
+)
+    requires { ⌜ Planned (now file) (now directory) (now inertial) (now fanins) × (inputs ≡ inputsOf (now file)) × (gates ≡ gatesOf (now file)) ⌝ }
+    requires { ⌜ Driven (now file) (now values) (length (now before)) (length (now after)) total ⌝ }
+    ensures { λ _. ⌜ now (values .exit) ≡ padded (length (now (values .entry))) (allValues (circuitOf (now (file .entry))) (now (before .entry)) (now (after .entry))) ⌝ }
+{
+    let frames = total as usize;
+    input_words(values, before, after);
+    all_gates(file, directory, inertial, fanins, values, inputs, gates);
+    let end = values.len();
+    slices::clear_words(&mut values[frames..end]);
+}

@@ -1,0 +1,235 @@
+// The raw words of a gate's frames: 64 lanes at once.
+ghost use mathlib.Core.Path.{_≡_};
+ghost use mathlib.Core.Bool.{true, false};
+ghost use mathlib.Core.List.{[], _∷_};
+ghost use Prim.Native.Nat.{_+_};
+ghost use lib.ListN.{length, getD};
+ghost use lib.Seq.{sets};
+ghost use Rattle.method.specs.Kinds.{takes};
+ghost use Rattle.evaluation.specs.Steps.{OneOf, Points, Raw, Row, SomeOf, exact, flipped, gateWord, mask, rawWords, ruleOf, sources, turned};
+use method::Kind;
+
+const ALL: u64 = 18446744073709551615;
+
+// How a kind works on words: the lanes in which exactly one entry is 1, or else those in which some entry is, each entry
+// turned first; then the result flipped. To turn or flip is all lanes or none, so that eight kinds need two ways. The kind
+// itself is there for the contracts.
+pub(crate) struct Rule {
+    kind: Kind,
+    exact: bool,
+    turn: u64,
+    flip: u64,
+}
+
+pub(crate) fn rule_of(kind: Kind) -> Rule
+    ensures { λ r. ⌜ r ≡ ruleOf kind ⌝ }
+{
+    let exact = is_exact(kind);
+    let turn = turn_of(kind);
+    let flip = flip_of(kind);
+    Rule {
+        kind,
+        exact,
+        turn,
+        flip,
+    }
+}
+
+// Whether exactly one entry has to be 1. A table for each of the three: one for all makes a jump that is guessed wrong.
+fn is_exact(kind: Kind) -> bool
+    ensures { λ r. ⌜ r ≡ exact kind ⌝ }
+{
+    match kind {
+        Kind::Buf => false,
+        Kind::Not => false,
+        Kind::And => false,
+        Kind::Nand => false,
+        Kind::Or => false,
+        Kind::Nor => false,
+        Kind::Xor => true,
+        Kind::Xnor => true,
+    }
+}
+
+// AND and NAND ask whether some entry, turned, is 1: whether some entry is 0.
+fn turn_of(kind: Kind) -> u64
+    ensures { λ r. ⌜ r ≡ mask (turned kind) ⌝ }
+{
+    match kind {
+        Kind::Buf => 0,
+        Kind::Not => 0,
+        Kind::And => ALL,
+        Kind::Nand => ALL,
+        Kind::Or => 0,
+        Kind::Nor => 0,
+        Kind::Xor => 0,
+        Kind::Xnor => 0,
+    }
+}
+
+// NOT, NOR and XNOR are complements; so is AND, of "some entry, turned, is 1".
+fn flip_of(kind: Kind) -> u64
+    ensures { λ r. ⌜ r ≡ mask (flipped kind) ⌝ }
+{
+    match kind {
+        Kind::Buf => 0,
+        Kind::Not => ALL,
+        Kind::And => ALL,
+        Kind::Nand => 0,
+        Kind::Or => 0,
+        Kind::Nor => ALL,
+        Kind::Xor => 0,
+        Kind::Xnor => ALL,
+    }
+}
+
+// Writes the raw words of a gate of two fan-ins from `first` on; the fan-ins' frames start at x and y, the rows at `at`.
+pub(crate) fn pair_rows(
+    values: &mut [u64],
+    first: usize,
+    frames: usize,
+    x: usize,
+    y: usize,
+    fanins: &[u16],
+    at: usize,
+    rule: Rule,
+)
+    requires { ⌜ Raw (length (now values)) (x ∷ y ∷ []) (now fanins) (rule .kind) at 2 first frames × (rule ≡ ruleOf (rule .kind)) ⌝ }
+    ensures { λ _. ⌜ now (values .exit) ≡ sets (now (values .entry)) first (rawWords (now (values .entry)) (x ∷ y ∷ []) (now (fanins .entry)) (rule .kind) 2 at frames) ⌝ }
+{
+    let mut row = at;
+    let mut k = 0;
+    while k < frames {
+        let a = source(values, x, fanins, row);
+        let b = source(values, y, fanins, row + 1);
+        values[first + k] = pair_word(rule, a, b);
+        row += 2;
+        k += 1;
+    }
+}
+
+// The raw word of a frame from two words.
+fn pair_word(rule: Rule, x: u64, y: u64) -> u64
+    requires { ⌜ (takes (rule .kind) 2 ≡ true) × (rule ≡ ruleOf (rule .kind)) ⌝ }
+    ensures { λ r. ⌜ r ≡ gateWord (rule .kind) (x ∷ y ∷ []) ⌝ }
+{
+    let turn = rule.turn;
+    let flip = rule.flip;
+    if rule.exact {
+        return (x ^ y) ^ flip;
+    }
+    ((x ^ turn) | (y ^ turn)) ^ flip
+}
+
+// Writes the raw words of a gate of any number of fan-ins from `first` on. The kind is asked before the loop, not in it.
+pub(crate) fn wide_rows(
+    values: &mut [u64],
+    first: usize,
+    frames: usize,
+    bases: &[usize; 8],
+    fanins: &[u16],
+    at: usize,
+    entries: usize,
+    rule: Rule,
+)
+    requires { ⌜ Raw (length (now values)) (now bases) (now fanins) (rule .kind) at entries first frames × (rule ≡ ruleOf (rule .kind)) ⌝ }
+    ensures { λ _. ⌜ now (values .exit) ≡ sets (now (values .entry)) first (rawWords (now (values .entry)) (now (bases .entry)) (now (fanins .entry)) (rule .kind) entries at frames) ⌝ }
+{
+    if rule.exact {
+        one_rows(values, first, frames, bases, fanins, at, entries, rule);
+        return;
+    }
+    some_rows(values, first, frames, bases, fanins, at, entries, rule);
+}
+
+// The words where some entry has to be 1.
+fn some_rows(
+    values: &mut [u64],
+    first: usize,
+    frames: usize,
+    bases: &[usize; 8],
+    fanins: &[u16],
+    at: usize,
+    entries: usize,
+    rule: Rule,
+)
+    requires { ⌜ Raw (length (now values)) (now bases) (now fanins) (rule .kind) at entries first frames × (rule ≡ ruleOf (rule .kind)) × (rule .exact ≡ false) ⌝ }
+    ensures { λ _. ⌜ now (values .exit) ≡ sets (now (values .entry)) first (rawWords (now (values .entry)) (now (bases .entry)) (now (fanins .entry)) (rule .kind) entries at frames) ⌝ }
+{
+    let mut row = at;
+    let mut k = 0;
+    while k < frames {
+        values[first + k] = some_of(values, bases, fanins, row, entries, rule.turn) ^ rule.flip;
+        row += entries;
+        k += 1;
+    }
+}
+
+// The words where exactly one entry has to be 1.
+fn one_rows(
+    values: &mut [u64],
+    first: usize,
+    frames: usize,
+    bases: &[usize; 8],
+    fanins: &[u16],
+    at: usize,
+    entries: usize,
+    rule: Rule,
+)
+    requires { ⌜ Raw (length (now values)) (now bases) (now fanins) (rule .kind) at entries first frames × (rule ≡ ruleOf (rule .kind)) × (rule .exact ≡ true) ⌝ }
+    ensures { λ _. ⌜ now (values .exit) ≡ sets (now (values .entry)) first (rawWords (now (values .entry)) (now (bases .entry)) (now (fanins .entry)) (rule .kind) entries at frames) ⌝ }
+{
+    let mut row = at;
+    let mut k = 0;
+    while k < frames {
+        values[first + k] = one_of(values, bases, fanins, row, entries) ^ rule.flip;
+        row += entries;
+        k += 1;
+    }
+}
+
+// The lanes in which some entry of the row is 1, each turned.
+fn some_of(
+    values: &[u64],
+    bases: &[usize; 8],
+    fanins: &[u16],
+    at: usize,
+    entries: usize,
+    turn: u64,
+) -> u64
+    requires { ⌜ Row (length (now values)) (now bases) (now fanins) at entries ⌝ }
+    ensures { λ r. ⌜ SomeOf turn (sources (now (values .entry)) (now (bases .entry)) (now (fanins .entry)) at entries) r ⌝ }
+{
+    let mut word: u64 = 0;
+    let mut e = 0;
+    while e < entries {
+        word = word | (source(values, bases[e], fanins, at + e) ^ turn);
+        e += 1;
+    }
+    word
+}
+
+// The lanes in which exactly one entry of the row is 1: `one` are those with one or more so far, `more` those with two.
+fn one_of(values: &[u64], bases: &[usize; 8], fanins: &[u16], at: usize, entries: usize) -> u64
+    requires { ⌜ Row (length (now values)) (now bases) (now fanins) at entries ⌝ }
+    ensures { λ r. ⌜ OneOf (sources (now (values .entry)) (now (bases .entry)) (now (fanins .entry)) at entries) r ⌝ }
+{
+    let mut one: u64 = 0;
+    let mut more: u64 = 0;
+    let mut e = 0;
+    while e < entries {
+        let word = source(values, bases[e], fanins, at + e);
+        more = more | (one & word);
+        one = one | word;
+        e += 1;
+    }
+    one ^ more
+}
+
+// The word that the entry at this place of the fan-in area points to, for a fan-in whose frames start at `base`.
+fn source(values: &[u64], base: usize, fanins: &[u16], place: usize) -> u64
+    requires { ⌜ Points (length (now values)) base (now fanins) place ⌝ }
+    ensures { λ r. ⌜ r ≡ getD (now (values .entry)) (base + getD (now (fanins .entry)) place 0) 0 ⌝ }
+{
+    values[base + fanins[place] as usize]
+}

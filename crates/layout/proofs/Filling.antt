@@ -1,0 +1,58 @@
+-- The areas as a whole: cleared, and filled once all gates were tried.
+-- Assumes nothing.
+use Prim.Native.Nat.{ℕ}
+use mathlib.Core.Path.{_≡_, sym, _∙_}
+use mathlib.Core.List.{List}
+use lib.ListN.{length}
+use Rattle.lists.specs.Areas.{cleared}
+use Rattle.method.specs.Frames.{Frames, frames}
+use Rattle.circuit.specs.File.{gatesOf, circuitOf}
+use Rattle.circuit.proofs.Parts.{gates-length}
+use Rattle.layout.specs.declared.Totals.{Totals}
+use Rattle.layout.specs.declared.Progress.{Progress}
+use Rattle.layout.specs.declared.Progress.the-variants as P
+use Rattle.layout.specs.Areas.{Areas, areas, allCleared}
+use Rattle.layout.specs.Layout.{laid}
+use Rattle.layout.specs.Steps.{framesOf, Reached, Filled}
+use Rattle.layout.proofs.Prefix.{frames-all}
+use Rattle.layout.proofs.Stepping.{never, Alike}
+
+pub all-cleared : (d t i f : List ℕ) {d′ t′ i′ f′ : List ℕ} → d′ ≡ cleared d → t′ ≡ cleared t → i′ ≡ cleared i → f′ ≡ cleared f
+    → areas d′ t′ i′ f′ ≡ allCleared (areas d t i f)
+unfolding allCleared
+all-cleared d t i f a b c g = cc
+
+-- ---- all gates
+
+laid-alike : (fs : List Frames) {a a′ : Areas} → Alike a a′ → laid fs a′ ≡ laid fs a
+unfolding laid
+laid-alike fs l = rw (l .directory, l .times, l .inertial, l .fanins)
+
+cleared-alike : {a a′ : Areas} → Alike a a′ → allCleared a′ ≡ allCleared a
+unfolding allCleared
+cleared-alike l = rw (l .directory, l .times, l .inertial, l .fanins)
+
+module _ (file : List ℕ) {gates : ℕ} (all : gates ≡ gatesOf file) {a′ : Areas} {r : Progress} (h : Reached file gates a′ r) where
+  nets-all : framesOf file gates ≡ frames (circuitOf file)
+  nets-all = frames-all (circuitOf file) gates (all ∙ sym (gates-length file))
+
+  pub filled-now : {a : Areas} (t : Totals) → r ≡ P.Planned t → Alike a a′ → Filled file a a′ (P.Planned t)
+  filled-now t e l =
+      let o = h .planned t e in
+      record {
+        fit = λ u q. rw nets-all at (o .fit);
+        totals = λ u q. (let s : u ≡ t = cc in s ∙ (rw nets-all at (o .totals)));
+        filled = λ u q. (rw nets-all at (o .is)) ∙ laid-alike (frames (circuitOf file)) l;
+        stopped = λ q. absurd (never q);
+        emptied = λ q. absurd (never q);
+      }
+
+  pub filled-none : r ≡ P.TooMany → {a b : Areas} → b ≡ allCleared a′ → Alike a a′ → Filled file a b P.TooMany
+  filled-none e c l =
+      record {
+        fit = λ u q. absurd (never (sym q));
+        totals = λ u q. absurd (never (sym q));
+        filled = λ u q. absurd (never (sym q));
+        stopped = λ q. rw nets-all at (h .stopped e);
+        emptied = λ q. c ∙ cleared-alike l;
+      }

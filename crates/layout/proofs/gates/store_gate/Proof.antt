@@ -1,0 +1,138 @@
+-- `store_gate` meets its contract: each part is stored at its place; the times last, since the fan-in rows are read from them.
+-- Assumes nothing.
+use mathlib.Core.Path.{refl}
+use native.Mathlib.Omega.{arith}
+use denote.Ref.{now}
+use lib.ListN.{length}
+use Rattle.layout.proofs.Laying.{pair-stored}
+use Rattle.layout.proofs.Indexing.{own-some}
+use borrow.Author.Needs.{needs}
+use Rattle.layout.proofs.gates.store_gate.Statement.{statement}
+use Rattle.layout.proofs.gates.store_gate.Tie as tie
+
+cast-inertial-row : tie.Need-cast-inertial-row
+cast-inertial-row c = search needs
+
+inertial-row-requires : tie.Need-inertial-row-requires
+inertial-row-requires c κs = search needs
+
+cast-index-rows : tie.Need-cast-index-rows
+cast-index-rows c = search needs
+
+index-rows-requires : tie.Need-index-rows-requires
+index-rows-requires c κs = let s = c .before .before .before .before .before .before .before .before .before .before .before .before .before .before in (s .pre .0, (s .pre .1 .0, s .pre .1 .1 .fanins))
+
+cast-store : tie.Need-cast-store
+cast-store c = search needs
+
+store-requires : tie.Need-store-requires
+store-requires c κs = search needs
+
+cast-pair : tie.Need-cast-pair
+cast-pair c = search needs
+
+mul-pair : tie.Need-mul-pair
+mul-pair c = search needs
+
+mul-directory : tie.Need-mul-directory
+mul-directory c = search needs
+
+slice-write-directory : tie.Need-slice-write-directory
+slice-write-directory c = search needs
+
+cast-directory : tie.Need-cast-directory
+cast-directory c = search needs
+
+add-directory : tie.Need-add-directory
+add-directory c = search needs
+
+mul-directory-2 : tie.Need-mul-directory-2
+mul-directory-2 c = search needs
+
+slice-write-directory-2 : tie.Need-slice-write-directory-2
+slice-write-directory-2 c = search needs
+
+sub-t19 : tie.Need-sub-t19
+sub-t19 c = let s = c .before .before .before .before .before .before .before .before .before .before .before .before .before .before .before .before .before .before .before .before .before .before in omega (arith, own-some (now (s .args .own)) (s .pre .1 .0 .starts))
+
+mul-t30 : tie.Need-mul-t30
+mul-t30 c = search needs
+
+shared-slice-read-t29 : tie.Need-shared-slice-read-t29
+shared-slice-read-t29 c = let s = c .before .before .before .before .before .before .before .before .before .before .before .before .before .before .before .before .before .before .before .before .before .before .before in omega (arith, own-some (now (s .args .own)) (s .pre .1 .0 .starts))
+
+cast-t29 : tie.Need-cast-t29
+cast-t29 c = search needs
+
+add-t33 : tie.Need-add-t33
+add-t33 c = search needs
+
+cast-t34 : tie.Need-cast-t34
+cast-t34 c = search needs
+
+mul-t35 : tie.Need-mul-t35
+mul-t35 c = omega (arith, c .before .before .before .before .before .before .before .before .before .before .before .before .before .before .before .before .before .before .before .before .before .before .before .before .pre .1 .1 .few-fanins)
+
+add-t36 : tie.Need-add-t36
+add-t36 c = omega (arith, c .before .before .before .before .before .before .before .before .before .before .before .before .before .before .before .before .before .before .before .before .before .before .before .before .pre .1 .1 .few-fanins)
+
+later-of-requires : tie.Need-later-of-requires
+later-of-requires c κs = search needs
+
+same-length : tie.Need-same-length
+same-length c = search needs
+
+same-length-2 : tie.Need-same-length-2
+same-length-2 c = search needs
+
+same-length-3 : tie.Need-same-length-3
+same-length-3 c = search needs
+
+same-length-4 : tie.Need-same-length-4
+same-length-4 c = search needs
+
+returns : tie.Need-returns
+returns c =
+    let s = c .before .before .before .before .before .before .before .before .before .before .before .before .before .before .before .before .before .before .before .before .before .before .before .before .before in
+    record {
+      directory-is = pair-stored (now (s .args .directory)) (s .args .net .0) (s .args .totals .frames) (length (now (s .args .own)));
+      times-are = c .before .before .before .before .before .before .store .ensures;
+      inertial-is = c .before .before .before .before .before .before .before .before .before .before .before .before .before .before .before .before .inertial-row .ensures;
+      fanins-are = c .before .before .before .before .before .before .before .before .before .before .index-rows .ensures;
+      frames-sum = refl;
+      fanins-sum = refl;
+      last-is = c .later-of .ensures;
+    }
+
+pub store-gate-spec : {M : Type 1} → statement M
+store-gate-spec =
+    tie.close
+    (tie.spec
+    cast-inertial-row
+    inertial-row-requires
+    cast-index-rows
+    index-rows-requires
+    cast-store
+    store-requires
+    cast-pair
+    mul-pair
+    mul-directory
+    slice-write-directory
+    cast-directory
+    add-directory
+    mul-directory-2
+    slice-write-directory-2
+    sub-t19
+    mul-t30
+    shared-slice-read-t29
+    cast-t29
+    add-t33
+    cast-t34
+    mul-t35
+    add-t36
+    later-of-requires
+    same-length
+    same-length-2
+    same-length-3
+    same-length-4
+    returns)

@@ -1,0 +1,27 @@
+-- What is summed over all nets: whether there are too many frames, and the totals.
+use Prim.Native.Nat.{ℕ, max}
+use mathlib.Core.Bool.{Bool, _&&_}
+use mathlib.Core.List.{List, [], _∷_, map}
+use lib.ListN.{length}
+use lib.Dec.{leb}
+use Rattle.lists.specs.Tables.{every}
+use Rattle.method.specs.Frames.{Frames}
+use Rattle.method.specs.Limits.{mostNetFrames}
+use Rattle.layout.specs.declared.Totals.{Totals}
+use Rattle.layout.specs.Limits.{mostTotalFrames}
+use Rattle.layout.specs.Layout.{allTimes, allFanins}
+
+-- 13: Has every net at most 64 frames, and all nets together at most 2,048?
+unfoldable pub fits : List Frames → Bool
+fits fs =
+    every (map (λ (f : Frames). leb (length (f .times)) mostNetFrames) fs) && leb (length (allTimes fs)) mostTotalFrames
+
+-- the greatest of these times
+unfoldable pub latest : List ℕ → ℕ
+latest [] = 0
+latest (t ∷ ts) = max t (latest ts)
+
+-- the frame total, the fan-in total, and the last potential time: the greatest of all nets
+unfoldable pub totalsOf : List Frames → Totals
+totalsOf fs =
+    record { frames = length (allTimes fs); fanins = length (allFanins fs); last = record { 0 = latest (allTimes fs) } }

@@ -1,0 +1,144 @@
+// The gates, one after the other: each is planned from the nets before it.
+ghost use mathlib.Core.Path.{_≡_};
+ghost use mathlib.Core.List.{flatMap};
+ghost use Prim.Native.Nat.{_+_, _<_, max};
+ghost use lib.ListN.{length};
+ghost use Rattle.method.specs.Indices.{inertialIndices};
+ghost use Rattle.method.specs.Frames.{faninRow};
+ghost use Rattle.circuit.specs.File.{inputsOf, gatesOf};
+ghost use Rattle.layout.specs.Areas.{areas};
+ghost use Rattle.layout.specs.Steps.{Fed, Given, Going, Own, Place, Reached, Stored, spans};
+use crate::MOST_FANINS;
+use crate::Progress;
+use crate::Totals;
+use crate::indices::index_rows;
+use crate::indices::inertial_row;
+use crate::times::gate_times;
+use circuit::GateRecord;
+use method::Net;
+use method::Time;
+
+const MOST_NET_FRAMES: usize = 64;
+
+const MOST_TOTAL_FRAMES: u16 = 2048;
+
+// Room for the times of any gate, from those of its fan-ins.
+const GATHERED_LENGTH: usize = MOST_FANINS * MOST_NET_FRAMES + 2;
+
+// Plans the gates, until one shows that there are too many frames.
+pub(crate) fn add_gates(
+    file: &[u8],
+    inputs: u16,
+    gates: u16,
+    directory: &mut [u16],
+    times: &mut [u16],
+    inertial: &mut [u16],
+    fanins: &mut [u16],
+    start: Totals,
+) -> Progress
+    requires { ⌜ Given (now file) (areas (now directory) (now times) (now inertial) (now fanins)) × (inputs ≡ inputsOf (now file)) × (gates ≡ gatesOf (now file)) ⌝ }
+    requires { ⌜ Going (now file) 0 (areas (now directory) (now times) (now inertial) (now fanins)) start ⌝ }
+    ensures { λ r. ⌜ Reached (now (file .entry)) gates (areas (now (directory .exit)) (now (times .exit)) (now (inertial .exit)) (now (fanins .exit))) r ⌝ }
+{
+    let mut totals = start;
+    let mut j: u16 = 0;
+    while j < gates {
+        let net = Net(inputs + j);
+        let Progress::Planned(t) = add_gate(
+            file,
+            j,
+            net,
+            directory,
+            times,
+            inertial,
+            fanins,
+            totals,
+        ) else {
+            return Progress::TooMany;
+        };
+        totals = t;
+        j += 1;
+    }
+    Progress::Planned(totals)
+}
+
+// Plans gate j, which drives `net`, after the nets before it, unless there are too many frames.
+fn add_gate(
+    file: &[u8],
+    j: u16,
+    net: Net,
+    directory: &mut [u16],
+    times: &mut [u16],
+    inertial: &mut [u16],
+    fanins: &mut [u16],
+    totals: Totals,
+) -> Progress
+    requires { ⌜ Given (now file) (areas (now directory) (now times) (now inertial) (now fanins)) × (j < gatesOf (now file)) × (net .0 ≡ inputsOf (now file) + j) ⌝ }
+    requires { ⌜ Going (now file) j (areas (now directory) (now times) (now inertial) (now fanins)) totals ⌝ }
+    ensures { λ r. ⌜ Reached (now (file .entry)) (j + 1) (areas (now (directory .exit)) (now (times .exit)) (now (inertial .exit)) (now (fanins .exit))) r ⌝ }
+{
+    let gate = circuit::gate_at(file, j);
+    let first = totals.frames;
+    let mut gathered = [0u16; GATHERED_LENGTH];
+    let count = gate_times(file, gate, directory, times, &mut gathered);
+    if MOST_NET_FRAMES < count {
+        return Progress::TooMany;
+    }
+    if ((MOST_TOTAL_FRAMES - first) as usize) < count {
+        return Progress::TooMany;
+    }
+    let own = &gathered[0..count];
+    Progress::Planned(store_gate(
+        file,
+        gate,
+        net,
+        own,
+        directory,
+        times,
+        inertial,
+        fanins,
+        totals,
+    ))
+}
+
+// Writes the frames of a gate with these times, and its pair; the totals with this gate.
+fn store_gate(
+    file: &[u8],
+    gate: GateRecord,
+    net: Net,
+    own: &[u16],
+    directory: &mut [u16],
+    times: &mut [u16],
+    inertial: &mut [u16],
+    fanins: &mut [u16],
+    totals: Totals,
+) -> Totals
+    requires { ⌜ Fed (now file) gate (now directory) (now times) ⌝ }
+    requires { ⌜ Own (now own) ⌝ }
+    requires { ⌜ Place (areas (now directory) (now times) (now inertial) (now fanins)) (net .0) totals (length (now own)) (gate .entries) ⌝ }
+    ensures { λ r. ⌜ Stored (areas (now (directory .entry)) (now (times .entry)) (now (inertial .entry)) (now (fanins .entry))) (areas (now (directory .exit)) (now (times .exit)) (now (inertial .exit)) (now (fanins .exit))) (net .0) totals r (gate .entries) (now (own .entry)) (inertialIndices (gate .inertial) (now (own .entry))) (flatMap (faninRow (gate .delay) (spans (now (file .entry)) (gate .list) (gate .entries) (now (directory .entry)) (now (times .entry)))) (now (own .entry))) ⌝ }
+{
+    let count = own.len();
+    let first = totals.frames;
+    let at = totals.fanins;
+    let last = totals.last;
+    inertial_row(own, gate.inertial, inertial, first as usize);
+    index_rows(file, gate, directory, times, own, fanins, at as usize);
+    slices::store(times, first as usize, own);
+    let pair = 2 * (net.0 as usize);
+    directory[pair] = first;
+    directory[pair + 1] = count as u16;
+    let end = Time(own[count - 1]);
+    Totals {
+        frames: first + count as u16,
+        fanins: at + count as u16 * gate.entries,
+        last: later_of(last, end),
+    }
+}
+
+// The later of two times.
+fn later_of(a: Time, b: Time) -> Time
+    ensures { λ r. ⌜ r .0 ≡ max (a .0) (b .0) ⌝ }
+{
+    if a.0 < b.0 { b } else { a }
+}

@@ -1,0 +1,2 @@
+-- What Level and Count ask of one net's parts, and what they answer.
+pub mod Look

@@ -1,0 +1,102 @@
+// Clearing, storing and reading in a lent area, a search in a row of numbers, and a test that many questions ask.
+ghost use mathlib.Core.Path.{_≡_};
+ghost use Prim.Native.Nat.{_+_};
+ghost use lib.ListN.{drop, getD};
+ghost use lib.Seq.{sets};
+ghost use Rattle.lists.specs.Areas.{cleared};
+ghost use Rattle.lists.specs.Ladder.{between};
+ghost use Rattle.lists.specs.Front.{leading};
+
+// Sets every number of the area to 0.
+pub fn clear(area: &mut [u16])
+    ensures { λ _. ⌜ now (area .exit) ≡ cleared (now (area .entry)) ⌝ }
+{
+    let mut i = 0;
+    while i < area.len() {
+        area[i] = 0;
+        i += 1;
+    }
+}
+
+// Sets every word to 0.
+pub fn clear_words(words: &mut [u64])
+    ensures { λ _. ⌜ now (words .exit) ≡ cleared (now (words .entry)) ⌝ }
+{
+    let mut w = 0;
+    while w < words.len() {
+        words[w] = 0;
+        w += 1;
+    }
+}
+
+// Sets every byte to 0.
+pub fn clear_bytes(bytes: &mut [u8])
+    ensures { λ _. ⌜ now (bytes .exit) ≡ cleared (now (bytes .entry)) ⌝ }
+{
+    let mut b = 0;
+    while b < bytes.len() {
+        bytes[b] = 0;
+        b += 1;
+    }
+}
+
+// Stores the row into the area from `at` on, as far as the area reaches.
+pub fn store(area: &mut [u16], at: usize, row: &[u16])
+    ensures { λ _. ⌜ now (area .exit) ≡ sets (now (area .entry)) at (now (row .entry)) ⌝ }
+{
+    if area.len() <= at {
+        return;
+    }
+    let mut k = 0;
+    while k < row.len() {
+        if area.len() - at <= k {
+            return;
+        }
+        area[at + k] = row[k];
+        k += 1;
+    }
+}
+
+// An entry of an area; 0 beyond its end.
+pub fn entry_at(area: &[u16], place: usize) -> u16
+    ensures { λ r. ⌜ r ≡ getD (now (area .entry)) place 0 ⌝ }
+{
+    if area.len() <= place {
+        return 0;
+    }
+    area[place]
+}
+
+// A word of a list; 0 beyond its end.
+pub fn word_at(words: &[u64], place: usize) -> u64
+    ensures { λ r. ⌜ r ≡ getD (now (words .entry)) place 0 ⌝ }
+{
+    if words.len() <= place {
+        return 0;
+    }
+    words[place]
+}
+
+// The first place from `from` on whose number is above the limit; where there is none, the row's end, or `from` beyond it.
+pub fn first_above(row: &[u16], from: usize, limit: u16) -> usize
+    ensures { λ r. ⌜ r ≡ from + leading limit (drop from (now (row .entry))) ⌝ }
+{
+    let mut k = from;
+    while k < row.len() {
+        if limit < row[k] {
+            return k;
+        }
+        k += 1;
+    }
+    k
+}
+
+// Whether n is from least to most.
+pub fn is_between(least: u16, most: u16, n: u16) -> bool
+    ensures { λ r. ⌜ r ≡ between least most n ⌝ }
+{
+    if n < least {
+        return false;
+    }
+    n <= most
+}
