@@ -12,11 +12,11 @@ use Rattle.method.specs.Words.{lane}
 use Rattle.circuit.specs.File.{circuitOf}
 use Rattle.circuit.specs.Questions as circuit
 use Rattle.circuit.proofs.Gated.{questions-numbered}
-use Rattle.layout.specs.Sums.{totalsOf}
+use Rattle.method.specs.Sums.{totalsOf}
 use Rattle.planner.specs.Plan.{planOf}
 use Rattle.planner.specs.Questions as planner
-use Rattle.layout.specs.Layout.{laid}
-use Rattle.layout.specs.Areas as plan
+use Rattle.method.specs.Layout.{laid}
+use Rattle.method.specs.Areas as plan
 use Rattle.planner.proofs.Calling.{plan-numbered}
 use Rattle.engine.specs.Areas.{Areas, allCleared}
 use Rattle.method.specs.Values.{netCount}

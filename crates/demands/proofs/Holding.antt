@@ -12,9 +12,9 @@ use Rattle.lists.specs.Outcome.{outcome}
 use Rattle.method.specs.Circuit.{Circuit}
 use Rattle.method.specs.Frames.{frames}
 use Rattle.circuit.specs.File.{circuitOf}
-use Rattle.layout.specs.declared.Totals.{Totals}
-use Rattle.layout.specs.Areas as plan
-use Rattle.layout.specs.Layout.{pairs, allTimes, allInertial, allFanins, laid}
+use Rattle.method.specs.declared.Totals.{Totals}
+use Rattle.method.specs.Areas as plan
+use Rattle.method.specs.Layout.{pairs, allTimes, allInertial, allFanins, laid}
 use Rattle.planner.specs.Questions.{areasSuit}
 use Rattle.planner.specs.Plan.{planOf}
 use Rattle.planner.proofs.Calling.{suited, plan-accepted}

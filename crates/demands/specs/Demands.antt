@@ -22,11 +22,11 @@ use Rattle.method.specs.Agreement.{changedTimes, potential}
 use Rattle.method.specs.Lanes.{AgreeIn}
 use Rattle.circuit.specs.File.{circuitOf}
 use Rattle.circuit.specs.Questions as circuit
-use Rattle.layout.specs.declared.Totals.{Totals}
-use Rattle.layout.specs.Areas.{Areas as PlanAreas, allCleared as planCleared}
-use Rattle.layout.specs.Layout.{laid}
+use Rattle.method.specs.declared.Totals.{Totals}
+use Rattle.method.specs.Areas.{Areas as PlanAreas, allCleared as planCleared}
+use Rattle.method.specs.Layout.{laid}
 use Rattle.planner.specs.Questions as planner
-use Rattle.layout.specs.Sums.{totalsOf}
+use Rattle.method.specs.Sums.{totalsOf}
 use Rattle.planner.specs.Plan.{planOf}
 use Rattle.engine.specs.Areas.{Areas, allCleared}
 use Rattle.method.specs.Values.{netCount, allValues}

@@ -8,8 +8,8 @@ use Rattle.lists.specs.Outcome.{outcome}
 use Rattle.method.specs.Circuit.{Circuit}
 use Rattle.method.specs.Frames.{frames}
 use Rattle.planner.specs.Limits.{directoryLength, timesLength, faninsLength}
-use Rattle.layout.specs.Areas as planner
-use Rattle.layout.specs.Layout.{pairs, allTimes, allInertial, allFanins}
+use Rattle.method.specs.Areas as planner
+use Rattle.method.specs.Layout.{pairs, allTimes, allInertial, allFanins}
 use Rattle.engine.specs.Areas.{Areas}
 use Rattle.engine.specs.After as engine
 use Rattle.marking.specs.declared.Expectation.{Expectation}

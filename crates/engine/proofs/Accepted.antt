@@ -16,8 +16,8 @@ use Rattle.method.specs.Circuit.{Circuit}
 use Rattle.method.specs.Frames.{frames}
 use Rattle.circuit.specs.File.{inputsOf, gatesOf, circuitOf}
 use Rattle.circuit.specs.Questions as reader
-use Rattle.layout.specs.Layout.{laid}
-use Rattle.layout.specs.Sums.{fits, totalsOf}
+use Rattle.method.specs.Layout.{laid}
+use Rattle.method.specs.Sums.{fits, totalsOf}
 use Rattle.planner.specs.Questions as planner
 use Rattle.planner.proofs.Calling.{plan-kept}
 use Rattle.engine.specs.Areas.{Areas, allCleared}

@@ -27,10 +27,10 @@ use Rattle.method.proofs.Lanes.{in-lanes}
 use Rattle.circuit.specs.File.{circuitOf}
 use Rattle.circuit.proofs.Bounded.{time-small}
 use Rattle.method.specs.Limits.{mostNetFrames}
-use Rattle.layout.specs.Areas as areas
-use Rattle.layout.specs.Layout.{laid, firstFrame, frameCount}
-use Rattle.layout.proofs.Fitting.{fits-total, fits-net}
-use Rattle.layout.proofs.Laying.{pair-first, pair-count, times-part, frames-end}
+use Rattle.method.specs.Areas as areas
+use Rattle.method.specs.Layout.{laid, firstFrame, frameCount}
+use Rattle.method.proofs.Fitting.{fits-total, fits-net}
+use Rattle.method.proofs.Laying.{pair-first, pair-count, times-part, frames-end}
 use Rattle.engine.specs.Areas.{Areas, allCleared}
 use Rattle.method.specs.Values.{netCount}
 use Rattle.engine.specs.Run.{runLeft, runOf}

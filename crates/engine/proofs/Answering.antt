@@ -16,15 +16,15 @@ use Rattle.method.specs.Values.{allValues}
 use Rattle.circuit.specs.File.{inputsOf, circuitOf}
 use Rattle.circuit.specs.Questions as reader
 use Rattle.circuit.proofs.Gated.{questions-numbered}
-use Rattle.layout.specs.declared.Totals.{Totals}
+use Rattle.method.specs.declared.Totals.{Totals}
 use Rattle.layout.specs.declared.Progress.{Progress}
 use Rattle.layout.specs.declared.Progress.the-variants as P
 use Rattle.planner.specs.declared.Planning.the-variants as Q
-use Rattle.layout.specs.Sums.{fits, totalsOf}
+use Rattle.method.specs.Sums.{fits, totalsOf}
 use Rattle.layout.specs.Steps.{Filled}
 use Rattle.planner.specs.Questions.{lastQuestion}
 use Rattle.planner.specs.Plan.{onPaper}
-use Rattle.layout.specs.Areas as layout
+use Rattle.method.specs.Areas as layout
 use Rattle.engine.specs.Areas.{Areas, areas, allCleared}
 use Rattle.engine.specs.Questions.{ownQuestions, firstQuestions, questions}
 use Rattle.engine.specs.Run.{filled, runLeft, runOf}

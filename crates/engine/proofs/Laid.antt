@@ -9,14 +9,14 @@ use lib.ListN.{length}
 use Rattle.method.specs.Frames.{frames}
 use Rattle.circuit.specs.File.{inputsOf, gatesOf, circuitOf}
 use Rattle.circuit.proofs.Parts.{few}
-use Rattle.layout.specs.declared.Totals.{Totals}
+use Rattle.method.specs.declared.Totals.{Totals}
 use Rattle.layout.specs.declared.Progress.{Progress}
 use Rattle.layout.specs.declared.Progress.the-variants as P
-use Rattle.layout.specs.Areas.{Areas, areas}
-use Rattle.layout.specs.Layout.{allTimes, laid}
-use Rattle.layout.specs.Sums.{fits, totalsOf}
+use Rattle.method.specs.Areas.{Areas, areas}
+use Rattle.method.specs.Layout.{allTimes, laid}
+use Rattle.method.specs.Sums.{fits, totalsOf}
 use Rattle.layout.specs.Steps.{Given, Filled}
-use Rattle.layout.proofs.Fitting.{fits-total}
+use Rattle.method.proofs.Fitting.{fits-total}
 use Rattle.planner.proofs.Calling.{given-all, plan-room}
 use Rattle.evaluation.specs.Steps.{Planned, Driven}
 use Rattle.engine.specs.Areas as engine

@@ -18,10 +18,9 @@ use Rattle.method.specs.Packed.{laneOf, packedValues}
 use Rattle.method.specs.Agreement.{changedTimes, potential}
 use Rattle.method.specs.Lanes.{AgreeIn}
 use Rattle.circuit.specs.File.{circuitOf}
-use Rattle.layout.specs.declared.Totals.{Totals}
-use Rattle.method.specs.Limits.{mostNetFrames}
-use Rattle.layout.specs.Limits.{mostTotalFrames}
-use Rattle.layout.specs.Layout.{firstFrame, frameCount, partOf}
+use Rattle.method.specs.declared.Totals.{Totals}
+use Rattle.method.specs.Limits.{mostNetFrames, mostTotalFrames}
+use Rattle.method.specs.Layout.{firstFrame, frameCount, partOf}
 use Rattle.engine.specs.Areas.{Areas}
 use Rattle.method.specs.Values.{netCount}
 use Rattle.engine.specs.Run.{runOf}

@@ -2,7 +2,7 @@
 use Prim.Native.Nat.{ℕ}
 use mathlib.Core.List.{List}
 use Rattle.lists.specs.Areas.{cleared}
-use Rattle.layout.specs.Areas as planner
+use Rattle.method.specs.Areas as planner
 
 pub record Areas : Type 0 where
   pub plan : planner.Areas

@@ -8,9 +8,9 @@ use Rattle.lists.specs.Areas.{padded}
 use Rattle.method.specs.Circuit.{Circuit}
 use Rattle.method.specs.Frames.{frames}
 use Rattle.circuit.specs.File.{circuitOf}
-use Rattle.layout.specs.declared.Totals.{Totals}
-use Rattle.layout.specs.Layout.{laid}
-use Rattle.layout.specs.Sums.{totalsOf}
+use Rattle.method.specs.declared.Totals.{Totals}
+use Rattle.method.specs.Layout.{laid}
+use Rattle.method.specs.Sums.{totalsOf}
 use Rattle.engine.specs.Areas.{Areas, allCleared}
 use Rattle.method.specs.Values.{allValues}
 use Rattle.engine.specs.Questions.{questions}

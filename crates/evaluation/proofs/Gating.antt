@@ -34,13 +34,13 @@ use Rattle.circuit.proofs.Accepted as reader
 use Rattle.circuit.proofs.Faithful.{gate-within}
 use Rattle.circuit.proofs.Bounded.{no-feedback}
 use Rattle.circuit.proofs.Parts.{gates-length, gateFrom, gate-from, RecordWithin, circuit-inputs, circuit-within, within, gate-read, few}
-use Rattle.layout.specs.Layout.{firstFrame, frameCount, partOf, allTimes, allFanins}
-use Rattle.layout.proofs.Laying.{pair-first, pair-count, inertial-part, fanin-at, frames-end, fanins-end, fanins-more, times-next, frames-below}
+use Rattle.method.specs.Layout.{firstFrame, frameCount, partOf, allTimes, allFanins}
+use Rattle.method.proofs.Laying.{pair-first, pair-count, inertial-part, fanin-at, frames-end, fanins-end, fanins-more, times-next, frames-below}
 use Rattle.words.specs.Filtered.{filteredWords}
 use Rattle.evaluation.specs.Steps.{gateWord, target, sourceAt, sources, rawWords, basesOf, gateWords, Ready, Planned, Holds}
 use Rattle.evaluation.proofs.Writing.{raw-length}
 use Rattle.evaluation.proofs.Parts.{nets-count, word-each, words-before}
-use Rattle.layout.proofs.Prefix.{no-rows}
+use Rattle.method.proofs.Prefix.{no-rows}
 
 entry-fits : (k n m e : ℕ) → k < n → e < m → k * m + e < n * m
 entry-fits k n m e h l = let q : suc k * m ≤ n * m = mul-le-mul-right m h in omega (arith, suc-mul k m)

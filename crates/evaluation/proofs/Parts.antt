@@ -15,9 +15,9 @@ use Rattle.method.specs.Circuit.{Circuit}
 use Rattle.method.specs.Frames.{Frames, frames, framesAt}
 use Rattle.method.specs.Packed.{packedValues}
 use Rattle.method.proofs.Netwise.{net-by-net}
-use Rattle.layout.specs.Areas as planner
-use Rattle.layout.specs.Layout.{allTimes, laid, partOf}
-use Rattle.layout.proofs.Laying.{part-at, times-next}
+use Rattle.method.specs.Areas as planner
+use Rattle.method.specs.Layout.{allTimes, laid, partOf}
+use Rattle.method.proofs.Laying.{part-at, times-next}
 use Rattle.method.specs.Values.{netCount, allValues}
 
 pub nets-count : (c : Circuit) → length (frames c) ≡ netCount c

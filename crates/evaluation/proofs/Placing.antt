@@ -13,13 +13,13 @@ use Rattle.method.proofs.Bits.{pack-lt, pack-is}
 use Rattle.circuit.specs.declared.GateRecord.{GateRecord}
 use Rattle.circuit.specs.File.{faninAt}
 use Rattle.evaluation.specs.declared.rows.Rule.{Rule}
-use Rattle.layout.specs.Layout.{firstFrame, frameCount, partOf}
+use Rattle.method.specs.Layout.{firstFrame, frameCount, partOf}
 use Rattle.words.specs.Filtered.{filteredWords}
 use Rattle.evaluation.specs.Steps.{gateWord, target, rawWords, Raw, basesOf, Bases, gateWords, Ready, ruleOf}
 use Rattle.evaluation.proofs.Writing.{raw-length, raw-at}
 use Rattle.lists.proofs.Storing.{stored-part, put-part}
 use Rattle.words.proofs.Filtering.{filtered-length, still-words}
-use Rattle.layout.proofs.Laying.{part-length}
+use Rattle.method.proofs.Laying.{part-length}
 
 -- ---- an array that holds the bases
 

@@ -19,10 +19,10 @@ use Rattle.method.proofs.Bits.{pack-ext}
 use Rattle.method.proofs.Netwise.{net-by-net}
 use Rattle.circuit.specs.File.{inputsOf, gatesOf, circuitOf}
 use Rattle.circuit.proofs.Parts.{gates-length, circuit-inputs}
-use Rattle.layout.specs.Layout.{allTimes}
+use Rattle.method.specs.Layout.{allTimes}
 use Rattle.method.specs.Values.{netCount, allValues}
 use Rattle.evaluation.specs.Steps.{Holds, Driven, repacked, inputWords}
-use Rattle.layout.proofs.Prefix.{input-frames}
+use Rattle.method.proofs.Prefix.{input-frames}
 
 -- ---- the inputs
 

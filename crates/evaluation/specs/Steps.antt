@@ -16,8 +16,8 @@ use Rattle.method.specs.Packed.{packedValues}
 use Rattle.circuit.specs.declared.GateRecord.{GateRecord}
 use Rattle.circuit.specs.File.{inputsOf, gatesOf, faninAt, circuitOf}
 use Rattle.circuit.specs.Questions.{readOf}
-use Rattle.layout.specs.Areas.{areas}
-use Rattle.layout.specs.Layout.{laid, firstFrame, frameCount, partOf, allTimes, allFanins}
+use Rattle.method.specs.Areas.{areas}
+use Rattle.method.specs.Layout.{laid, firstFrame, frameCount, partOf, allTimes, allFanins}
 use Rattle.words.specs.Filtered.{filteredWords}
 use Rattle.evaluation.specs.declared.rows.Rule.{Rule}
 

@@ -6,7 +6,7 @@ ghost use lib.ListN.{length, take};
 ghost use lib.Seq.{sets};
 ghost use Rattle.method.specs.Kinds.{mostFanins};
 ghost use Rattle.circuit.specs.File.{inputsOf, gatesOf, faninAt};
-ghost use Rattle.layout.specs.Layout.{firstFrame, frameCount};
+ghost use Rattle.method.specs.Layout.{firstFrame, frameCount};
 ghost use Rattle.evaluation.specs.Steps.{Bases, Holds, Planned, Raw, Ready, Roomy, basesOf, gateWords, inputWords, rawWords};
 use crate::rows::pair_rows;
 use crate::rows::rule_of;

@@ -8,13 +8,13 @@ use Rattle.lists.specs.Areas.{cleared}
 use Rattle.method.specs.Frames.{Frames, frames}
 use Rattle.circuit.specs.File.{gatesOf, circuitOf}
 use Rattle.circuit.proofs.Parts.{gates-length}
-use Rattle.layout.specs.declared.Totals.{Totals}
+use Rattle.method.specs.declared.Totals.{Totals}
 use Rattle.layout.specs.declared.Progress.{Progress}
 use Rattle.layout.specs.declared.Progress.the-variants as P
-use Rattle.layout.specs.Areas.{Areas, areas, allCleared}
-use Rattle.layout.specs.Layout.{laid}
+use Rattle.method.specs.Areas.{Areas, areas, allCleared}
+use Rattle.method.specs.Layout.{laid}
 use Rattle.layout.specs.Steps.{framesOf, Reached, Filled}
-use Rattle.layout.proofs.Prefix.{frames-all}
+use Rattle.method.proofs.Prefix.{frames-all}
 use Rattle.layout.proofs.Stepping.{never, Alike}
 
 pub all-cleared : (d t i f : List ℕ) {d′ t′ i′ f′ : List ℕ} → d′ ≡ cleared d → t′ ≡ cleared t → i′ ≡ cleared i → f′ ≡ cleared f

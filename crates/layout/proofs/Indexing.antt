@@ -21,7 +21,7 @@ use Rattle.method.specs.Frames.{faninRow}
 use Rattle.method.proofs.Rising.{Rise, Starts, test-starts, starts-drop}
 use Rattle.method.proofs.Lasting.{leading-all, last-leading, last-mono, index-last}
 use Rattle.circuit.specs.File.{faninAt}
-use Rattle.layout.specs.Layout.{partOf}
+use Rattle.method.specs.Layout.{partOf}
 use Rattle.layout.specs.Steps.{Below, spans}
 use Rattle.layout.proofs.Spans.{spans-length, spans-at, spans-next}
 

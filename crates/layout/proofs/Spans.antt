@@ -6,7 +6,7 @@ use mathlib.Core.List.{List, [], _∷_}
 use native.Mathlib.Omega.{arith}
 use native.Mathlib.Numerals.{add-one}
 use lib.ListN.{length, getD, take, drop, length-map, length-drop, List·getD-map}
-use lib.Seq.{length-take-le, drop-cons, getD-take, getD-drop}
+use lib.Seq.{length-take-le, drop-cons, getD-drop}
 use Rattle.lists.specs.Tables.{tabulate}
 use Rattle.lists.proofs.Tabled.{from-length, tabulate-at}
 use Rattle.lists.proofs.ByNumber.{getD-any}
@@ -15,22 +15,10 @@ use Rattle.circuit.specs.declared.GateRecord.{GateRecord}
 use Rattle.circuit.specs.File.{faninAt}
 use Rattle.circuit.specs.Limits.{mostTime}
 use Rattle.method.specs.Limits.{mostNetFrames}
-use Rattle.layout.specs.Layout.{firstFrame, frameCount, partOf}
+use Rattle.method.specs.Layout.{firstFrame, frameCount, partOf}
 use Rattle.layout.specs.Steps.{Fed, spans}
 
 -- ---- one net
-
--- read by its pair: the numbers from first up to end
-pub part-read : (d t : List ℕ) (n : ℕ) {first end : ℕ} → first ≡ getD d (2 * n) 0 → end ≡ first + getD d (2 * n + 1) 0 → take (end - first) (drop first t) ≡ partOf d t n
-unfolding partOf
-part-read d t n {first} {end} p q =
-    let m : end - first ≡ getD d (2 * n + 1) 0 = omega arith in
-    rw (m, p)
-
--- entry k of net n's part of an area
-pub part-entry : (d area : List ℕ) (n k : ℕ) → k < frameCount d n → getD area (firstFrame d n + k) 0 ≡ getD (partOf d area n) k 0
-unfolding partOf
-part-entry d area n k h = sym (getD-take (frameCount d n) (drop (firstFrame d n) area) k 0 h ∙ getD-drop (firstFrame d n) area k 0)
 
 take-early : (b m : ℕ) (l : List ℕ) → ((k : ℕ) → getD l k 0 ≤ b) → (k : ℕ) → getD (take m l) k 0 ≤ b
 take-early b zero l e k = omega arith

@@ -12,15 +12,15 @@ use Rattle.lists.proofs.Padding.{pad-cleared}
 use Rattle.method.specs.Frames.{inputFrames}
 use Rattle.circuit.specs.File.{inputsOf, circuitOf}
 use Rattle.circuit.specs.Limits.{mostInputs}
-use Rattle.layout.specs.declared.Totals.{Totals}
-use Rattle.layout.specs.Areas.{Areas, areas, allCleared}
-use Rattle.layout.specs.Layout.{allTimes, allInertial, allFanins}
-use Rattle.layout.specs.Sums.{fits}
-use Rattle.layout.specs.Sums.{latest, totalsOf}
-use Rattle.layout.specs.Steps.{framesOf, inputsOnly, Room, Given, Inputs, Going}
-use Rattle.layout.proofs.Laying.{inputs-count, inputs-frames, no-pairs, no-times, inputs-laid}
-use Rattle.layout.proofs.Prefix.{frames-none}
-use Rattle.layout.proofs.Fitting.{fits-inputs}
+use Rattle.method.specs.declared.Totals.{Totals}
+use Rattle.method.specs.Areas.{Areas, areas, allCleared}
+use Rattle.method.specs.Layout.{allTimes, allInertial, allFanins}
+use Rattle.method.specs.Sums.{fits, latest, totalsOf}
+use Rattle.method.specs.First.{inputsOnly, Room, Inputs}
+use Rattle.layout.specs.Steps.{framesOf, Given, Going}
+use Rattle.method.proofs.Laying.{inputs-count, inputs-frames, no-pairs, no-times, inputs-laid}
+use Rattle.method.proofs.Prefix.{frames-none}
+use Rattle.method.proofs.Fitting.{fits-inputs}
 use Rattle.circuit.proofs.Parts.{circuit-inputs, few}
 
 -- ---- what the inputs are

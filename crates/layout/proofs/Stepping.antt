@@ -19,21 +19,20 @@ use Rattle.circuit.specs.declared.GateRecord.{GateRecord}
 use Rattle.circuit.specs.File.{inputsOf, gatesOf, faninAt, recordOf, circuitOf}
 use Rattle.circuit.specs.Limits.{mostTime}
 use Rattle.circuit.proofs.Parts.{gates-length, gateFrom, circuit-inputs, circuit-within, few, within, gate-read, gate-entries}
-use Rattle.layout.specs.declared.Totals.{Totals}
+use Rattle.method.specs.declared.Totals.{Totals}
 use Rattle.layout.specs.declared.Progress.the-variants as P
-use Rattle.method.specs.Limits.{mostNetFrames}
-use Rattle.layout.specs.Limits.{mostTotalFrames}
-use Rattle.layout.specs.Areas.{Areas}
-use Rattle.layout.specs.Layout.{allTimes, allFanins, partOf}
-use Rattle.layout.specs.Sums.{fits}
-use Rattle.layout.specs.Sums.{latest, totalsOf}
-use Rattle.layout.specs.Steps.{Put, spans, Fed, Own, firstGates, framesOf, Room, Given, Place, Stored, Going, Reached}
+use Rattle.method.specs.Limits.{mostNetFrames, mostTotalFrames}
+use Rattle.method.specs.Areas.{Areas}
+use Rattle.method.specs.Layout.{allTimes, allFanins, partOf}
+use Rattle.method.specs.Sums.{fits, latest, totalsOf}
+use Rattle.method.specs.First.{firstGates, Room}
+use Rattle.layout.specs.Steps.{Put, spans, Fed, Own, framesOf, Given, Place, Stored, Going, Reached}
 use Rattle.layout.proofs.Inserting.{front}
-use Rattle.layout.proofs.Laying.{Spot, spot-at, low-area, times-snoc, total-more, fanins-more, Behind, laid-snoc}
-use Rattle.layout.proofs.Prefix.{faninTimes, nextFrames, next-times, next-inertial, next-rows, next-even, next-count, frames-early}
-use Rattle.layout.proofs.Fitting.{fits-total, fits-net, fits-more, fits-long, fits-many}
-use Rattle.layout.proofs.Accepted.{nets-sized, nets-count, nets-next}
-use Rattle.layout.proofs.Latest.{latest-append, latest-is}
+use Rattle.method.proofs.Laying.{Spot, spot-at, low-area, times-snoc, total-more, fanins-more, Behind, laid-snoc}
+use Rattle.method.proofs.Prefix.{faninTimes, nextFrames, next-times, next-inertial, next-rows, next-even, next-count}
+use Rattle.method.proofs.Fitting.{fits-total, fits-net, fits-more, fits-long, fits-many}
+use Rattle.layout.proofs.Accepted.{nets-sized, nets-count, nets-next, frames-early}
+use Rattle.method.proofs.Latest.{latest-append, latest-is}
 
 -- ---- what is known of gate j and its net, in three stages
 

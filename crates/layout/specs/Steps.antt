@@ -12,20 +12,19 @@ use Rattle.method.specs.Kinds.{mostFanins}
 use Rattle.method.specs.Circuit.{Circuit}
 use Rattle.method.specs.Times.{insert, startAndRise}
 use Rattle.method.specs.Indices.{lastFrame}
-use Rattle.method.specs.Frames.{Frames, inputFrames, frames}
+use Rattle.method.specs.Frames.{Frames, frames}
+use Rattle.method.specs.First.{firstGates, Room}
 use Rattle.circuit.specs.declared.GateRecord.{GateRecord}
 use Rattle.circuit.specs.File.{inputsOf, gatesOf, faninAt, circuitOf}
 use Rattle.circuit.specs.Limits.{mostDelay, mostTime}
 use Rattle.circuit.specs.Questions.{readOf}
-use Rattle.layout.specs.declared.Totals.{Totals}
+use Rattle.method.specs.declared.Totals.{Totals}
 use Rattle.layout.specs.declared.Progress.{Progress}
 use Rattle.layout.specs.declared.Progress.the-variants as P
-use Rattle.method.specs.Limits.{mostNetFrames}
-use Rattle.layout.specs.Limits.{mostTotalFrames}
-use Rattle.layout.specs.Areas.{Areas, allCleared}
-use Rattle.layout.specs.Layout.{allTimes, allFanins, pairs, laid, partOf}
-use Rattle.layout.specs.Sums.{fits}
-use Rattle.layout.specs.Sums.{totalsOf}
+use Rattle.method.specs.Limits.{mostNetFrames, mostTotalFrames}
+use Rattle.method.specs.Areas.{Areas, allCleared}
+use Rattle.method.specs.Layout.{allTimes, allFanins, pairs, laid, partOf}
+use Rattle.method.specs.Sums.{fits, totalsOf}
 
 -- ---- the times of one gate, gathered from those of its fan-ins
 
@@ -82,34 +81,14 @@ pub record Own (ts : List ℕ) : Type 0 where
 
 -- ---- gate by gate
 
--- the inputs and the first j gates
-abbrev pub firstGates : ℕ → Circuit → Circuit
-firstGates j c = record { inputs = c .inputs; gates = take j (c .gates) }
-
--- their frames
+-- the frames of the inputs and the first j gates
 abbrev pub framesOf : List ℕ → ℕ → List Frames
 framesOf file j = frames (firstGates j (circuitOf file))
-
--- the frames of n inputs
-abbrev pub inputsOnly : ℕ → List Frames
-inputsOnly n = tabulate n (λ (i : ℕ). inputFrames)
-
--- the areas are long enough for the frames of these nets
-pub record Room (fs : List Frames) (a : Areas) : Type 0 where
-  pub directory : 2 * length fs ≤ length (a .directory)
-  pub times : length (allTimes fs) ≤ length (a .times)
-  pub inertial : length (allTimes fs) ≤ length (a .inertial)
-  pub fanins : length (allFanins fs) ≤ length (a .fanins)
 
 -- an accepted file, and areas that are long enough for as many of its gates as have not too many frames
 pub record Given (file : List ℕ) (a : Areas) : Type 0 where
   pub read : readOf file ≡ accepted (record { inputs = inputsOf file; gates = gatesOf file })
   pub room : (j : ℕ) → j ≤ gatesOf file → fits (framesOf file j) ≡ true → Room (framesOf file j) a
-
--- n inputs are in the directory and in the times
-pub record Inputs (d t : List ℕ) (n : ℕ) : Type 0 where
-  pub pairs-are : d ≡ padded (length d) (pairs 0 (inputsOnly n))
-  pub times-are : t ≡ padded (length t) (allTimes (inputsOnly n))
 
 -- there is room for a gate on this net with this many frames and entries, behind the frames and rows that are there; and
 -- the totals stay small

@@ -4,9 +4,10 @@ ghost use Prim.Native.Nat.{_*_, _≤_};
 ghost use lib.ListN.{length};
 ghost use Rattle.circuit.specs.File.{inputsOf, gatesOf};
 ghost use Rattle.circuit.specs.Limits.{mostInputs};
-ghost use Rattle.layout.specs.Areas.{areas, allCleared};
-ghost use Rattle.layout.specs.Sums.{totalsOf};
-ghost use Rattle.layout.specs.Steps.{Given, Inputs, Filled, inputsOnly};
+ghost use Rattle.method.specs.Areas.{areas, allCleared};
+ghost use Rattle.method.specs.Sums.{totalsOf};
+ghost use Rattle.method.specs.First.{inputsOnly, Inputs};
+ghost use Rattle.layout.specs.Steps.{Given, Filled};
 
 mod gates;
 mod indices;
@@ -14,16 +15,10 @@ mod times;
 
 use gates::add_gates;
 use method::Time;
+use method::Totals;
 
 // A gate has at most this many fan-in entries.
 const MOST_FANINS: usize = 8;
-
-// How many frames and how many fan-in entries there are, and the last potential time.
-pub struct Totals {
-    pub frames: u16,
-    pub fanins: u16,
-    pub last: Time,
-}
 
 // How far planning has come: the totals so far, or that there are too many frames.
 pub enum Progress {

@@ -9,7 +9,7 @@ ghost use Rattle.method.specs.Kinds.{mostFanins};
 ghost use Rattle.method.specs.Times.{gateTimes, startAndRise};
 ghost use Rattle.circuit.specs.Limits.{mostDelay, mostTime};
 ghost use Rattle.method.specs.Limits.{mostNetFrames};
-ghost use Rattle.layout.specs.Layout.{partOf};
+ghost use Rattle.method.specs.Layout.{partOf};
 ghost use Rattle.layout.specs.Steps.{Fed, Inserted, Put, into, spans};
 use circuit::GateRecord;
 use method::Net;

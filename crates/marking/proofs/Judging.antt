@@ -18,7 +18,7 @@ use Rattle.circuit.specs.declared.Reading.{Reading}
 use Rattle.circuit.specs.declared.Reading.the-variants as R
 use Rattle.circuit.specs.Questions.{readOf, onPaper}
 use Rattle.circuit.proofs.Parts.{inputs-are, gates-are, few}
-use Rattle.layout.specs.Layout.{firstFrame, frameCount}
+use Rattle.method.specs.Layout.{firstFrame, frameCount}
 use Rattle.marking.specs.declared.Expectation.{Expectation}
 use Rattle.marking.specs.Questions.{suits, listSuits}
 use Rattle.marking.specs.Steps.{netsIn, netsOf, breaksAt}

@@ -13,10 +13,10 @@ use Rattle.lists.proofs.Ladders.{Numbered, numbered-append, numbered-more, firs
 use Rattle.lists.proofs.Leaving.{left-other}
 use Rattle.method.specs.Frames.{frames}
 use Rattle.circuit.specs.File.{circuitOf}
-use Rattle.layout.specs.declared.Totals.{Totals}
+use Rattle.method.specs.declared.Totals.{Totals}
 use Rattle.planner.specs.declared.Planning.{Planning}
 use Rattle.planner.specs.declared.Planning.the-variants as Q
-use Rattle.layout.specs.Sums.{totalsOf}
+use Rattle.method.specs.Sums.{totalsOf}
 use Rattle.planner.specs.Plan.{onPaper}
 use Rattle.planner.specs.Questions.{lastQuestion}
 use Rattle.engine.specs.Areas.{Areas}

@@ -21,8 +21,8 @@ use Rattle.method.proofs.Bits.{getD-lane}
 use Rattle.method.proofs.Tracing.{value-each}
 use Rattle.method.proofs.Lanes.{in-lanes}
 use Rattle.circuit.specs.File.{circuitOf}
-use Rattle.layout.specs.Layout.{firstFrame, frameCount, partOf}
-use Rattle.layout.proofs.Spans.{part-entry}
+use Rattle.method.specs.Layout.{firstFrame, frameCount, partOf}
+use Rattle.method.proofs.Laying.{part-entry}
 use Rattle.engine.specs.Areas.{Areas}
 use Rattle.method.specs.Values.{netCount}
 use Rattle.engine.specs.After.{After}

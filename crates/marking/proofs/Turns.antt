@@ -10,7 +10,7 @@ use lib.Dec.{T, eqb, T-not, eqb-refl}
 use lib.ListN.{length, getD, drop}
 use lib.Seq.{drop-cons, drop-length}
 use Rattle.lists.specs.Ladder.{accepted}
-use Rattle.layout.specs.Layout.{frameCount}
+use Rattle.method.specs.Layout.{frameCount}
 use Rattle.method.specs.declared.Frame.{Frame}
 use Rattle.marking.specs.declared.Expectation.{Expectation}
 use Rattle.marking.specs.declared.Marking.the-variants as M

@@ -8,7 +8,7 @@ use Rattle.lists.specs.Ladder.{Answer, accepted, refused, firstNo}
 use Rattle.method.specs.Words.{lane}
 use Rattle.circuit.specs.File.{circuitOf}
 use Rattle.circuit.specs.Questions.{Size, readOf}
-use Rattle.layout.specs.Layout.{firstFrame, frameCount}
+use Rattle.method.specs.Layout.{firstFrame, frameCount}
 use Rattle.engine.specs.Areas.{Areas}
 use Rattle.engine.specs.Run.{runLeft}
 use Rattle.marking.specs.declared.Expectation.{Expectation}

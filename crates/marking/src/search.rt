@@ -1,7 +1,7 @@
 // The search for the first expectation that a run does not meet.
 ghost use mathlib.Core.Path.{_≡_};
 ghost use Rattle.lists.specs.Ladder.{accepted};
-ghost use Rattle.layout.specs.Layout.{frameCount};
+ghost use Rattle.method.specs.Layout.{frameCount};
 ghost use Rattle.marking.specs.Mark.{onPaper};
 ghost use Rattle.marking.specs.Steps.{breaksAt, searched};
 use crate::Expectation;

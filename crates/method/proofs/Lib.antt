@@ -7,6 +7,10 @@ pub mod Waves
 pub mod Filtering
 pub mod Following
 pub mod Planned
+pub mod Laying
+pub mod Prefix
+pub mod Fitting
+pub mod Latest
 pub mod Tracing
 pub mod Counting
 pub mod Agreement

@@ -12,6 +12,11 @@ pub mod Filter
 pub mod Traces
 pub mod Look
 pub mod Limits
+-- How all frames lie in areas, and what is summed over them.
+pub mod Areas
+pub mod Layout
+pub mod Sums
+pub mod First
 -- The machine that knows none of these.
 pub mod Machine
 -- 64 lanes in a word.

@@ -8,7 +8,7 @@ use lib.Dec.{eqb}
 use lib.ListN.{length}
 use borrow.Author.Tests.{eq-eqb, ne-eqb}
 use Rattle.planner.specs.Limits.{directoryLength, timesLength, faninsLength}
-use Rattle.layout.specs.Areas.{areas}
+use Rattle.method.specs.Areas.{areas}
 use Rattle.planner.specs.Questions.{areasSuit}
 
 module _ (d t i f : List ℕ) where

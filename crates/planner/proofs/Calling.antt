@@ -20,22 +20,22 @@ use Rattle.circuit.specs.declared.Reading.the-variants as R
 use Rattle.circuit.specs.Questions as reader
 use Rattle.circuit.proofs.Gated.{questions-numbered}
 use Rattle.circuit.proofs.Parts.{gates-length, inputs-are, gates-are, few}
-use Rattle.layout.specs.declared.Totals.{Totals}
+use Rattle.method.specs.declared.Totals.{Totals}
 use Rattle.layout.specs.declared.Progress.{Progress}
 use Rattle.layout.specs.declared.Progress.the-variants as P
 use Rattle.planner.specs.declared.Planning.the-variants as Q
-use Rattle.layout.specs.Limits.{mostTotalFrames}
+use Rattle.method.specs.Limits.{mostTotalFrames}
 use Rattle.planner.specs.Limits.{directoryLength, timesLength, faninsLength}
-use Rattle.layout.specs.Areas.{Areas, allCleared}
-use Rattle.layout.specs.Layout.{allTimes, laid}
-use Rattle.layout.specs.Sums.{fits}
+use Rattle.method.specs.Areas.{Areas, allCleared}
+use Rattle.method.specs.Layout.{allTimes, laid}
+use Rattle.method.specs.Sums.{fits, totalsOf}
 use Rattle.planner.specs.Questions.{areasSuit, lastQuestion, ownQuestions, questions}
-use Rattle.layout.specs.Sums.{totalsOf}
 use Rattle.planner.specs.Plan.{planOf, onPaper}
-use Rattle.layout.specs.Steps.{framesOf, Given, Filled, Room}
-use Rattle.layout.proofs.Laying.{laid-kept}
-use Rattle.layout.proofs.Prefix.{frames-all}
-use Rattle.layout.proofs.Fitting.{fits-total}
+use Rattle.method.specs.First.{Room}
+use Rattle.layout.specs.Steps.{framesOf, Given, Filled}
+use Rattle.method.proofs.Laying.{laid-kept}
+use Rattle.method.proofs.Prefix.{frames-all}
+use Rattle.method.proofs.Fitting.{fits-total}
 use Rattle.layout.proofs.Accepted.{nets-count, nets-sized}
 
 -- ---- question 10 gives room for every plan that fits

@@ -5,12 +5,12 @@ use Rattle.lists.specs.Ladder.{firstNo, Answer, accepted, refused, unless}
 use Rattle.lists.specs.Outcome.{Outcome, outcome, leftBy}
 use Rattle.method.specs.Frames.{Frames, frames}
 use Rattle.circuit.specs.File.{circuitOf}
-use Rattle.layout.specs.declared.Totals.{Totals}
-use Rattle.layout.specs.Sums.{totalsOf}
+use Rattle.method.specs.declared.Totals.{Totals}
+use Rattle.method.specs.Sums.{totalsOf}
 use Rattle.planner.specs.declared.Planning.{Planning}
 use Rattle.planner.specs.declared.Planning.the-variants.{Planned, Refused}
-use Rattle.layout.specs.Areas.{Areas, allCleared}
-use Rattle.layout.specs.Layout.{laid}
+use Rattle.method.specs.Areas.{Areas, allCleared}
+use Rattle.method.specs.Layout.{laid}
 use Rattle.planner.specs.Questions.{questions}
 
 -- Plan of a file and of areas with these contents; no word enters it

@@ -8,9 +8,9 @@ use Rattle.lists.specs.Ladder.{Question, _orElse_}
 use Rattle.method.specs.Frames.{frames}
 use Rattle.circuit.specs.File.{circuitOf}
 use Rattle.circuit.specs.Questions as reader
-use Rattle.layout.specs.Sums.{fits}
+use Rattle.method.specs.Sums.{fits}
 use Rattle.planner.specs.Limits.{directoryLength, timesLength, faninsLength}
-use Rattle.layout.specs.Areas.{Areas}
+use Rattle.method.specs.Areas.{Areas}
 
 -- 10: Are the areas of exactly these lengths: directory 320, times 2,048, inertial 2,048, fan-in 16,384?
 unfoldable pub areasSuit : Areas → Bool

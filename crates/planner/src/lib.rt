@@ -1,12 +1,12 @@
 // Plan: the frames of every net of a circuit, laid out in the caller's areas.
 ghost use mathlib.Core.Path.{_≡_};
 ghost use Rattle.lists.specs.Outcome.{outcome};
-ghost use Rattle.layout.specs.Areas.{areas};
+ghost use Rattle.method.specs.Areas.{areas};
 ghost use Rattle.planner.specs.Questions.{areasSuit};
 ghost use Rattle.planner.specs.Plan.{onPaper, planOf};
 use circuit::Reading;
 use layout::Progress;
-use layout::Totals;
+use method::Totals;
 
 const DIRECTORY_LENGTH: usize = 320;
 

@@ -22,13 +22,13 @@ use Rattle.circuit.proofs.Accepted.{Head, passed}
 use Rattle.circuit.proofs.Parts.{circuit-inputs, gates-length}
 use Rattle.planner.specs.declared.Planning.{Planning}
 use Rattle.planner.specs.declared.Planning.the-variants as Q
-use Rattle.layout.specs.declared.Totals.{Totals}
+use Rattle.method.specs.declared.Totals.{Totals}
 use Rattle.planner.specs.Plan.{onPaper}
 use Rattle.method.specs.Frames.{frames}
-use Rattle.layout.specs.Sums.{fits}
+use Rattle.method.specs.Sums.{fits}
 use Rattle.planner.specs.Questions.{lastQuestion}
 use Rattle.planner.specs.Questions as planner
-use Rattle.layout.proofs.Fitting.{fits-total}
+use Rattle.method.proofs.Fitting.{fits-total}
 use Rattle.engine.specs.Areas.{Areas, areas}
 use Rattle.engine.specs.Questions as engine
 use Rattle.engine.specs.Run.{runOf}

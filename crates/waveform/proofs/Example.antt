@@ -12,7 +12,7 @@ use Rattle.method.specs.Words.{lane}
 use Rattle.circuit.specs.File.{numberAt, faninsOf, kindOf, gateOf, circuitOf}
 use Rattle.circuit.specs.Limits.{delaysSuit}
 use Rattle.circuit.specs.Questions as reader
-use Rattle.layout.specs.Sums.{fits}
+use Rattle.method.specs.Sums.{fits}
 use Rattle.waveform.specs.Words.{wordAt}
 use Rattle.waveform.specs.Input.{whole, filePart, wordPart, wordsFrom, questions}
 use Rattle.waveform.specs.Text.{digitAt, decimal}

@@ -10,7 +10,7 @@ use Rattle.lists.specs.Ladder.{firstNo}
 use Rattle.lists.specs.Tables.{tabulate}
 use Rattle.method.specs.Words.{lane}
 use Rattle.circuit.specs.File.{circuitOf}
-use Rattle.layout.specs.Layout.{firstFrame, frameCount}
+use Rattle.method.specs.Layout.{firstFrame, frameCount}
 use Rattle.engine.specs.Areas.{Areas}
 use Rattle.engine.specs.Questions as engine
 use Rattle.waveform.specs.Text.{newline, decimal, refusal}

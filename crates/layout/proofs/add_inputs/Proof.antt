@@ -4,8 +4,8 @@ use Prim.Native.Nat.{_-_, _≤_}
 use mathlib.Core.Path.{_≡_, refl}
 use lib.ListN.{length, length-set}
 use native.Mathlib.Omega.{arith}
-use Rattle.layout.specs.Steps.{Inputs}
-use Rattle.layout.proofs.Laying.{inputs-on}
+use Rattle.method.specs.First.{Inputs}
+use Rattle.method.proofs.Laying.{inputs-on}
 use Rattle.layout.proofs.Starting.{inputs-totals}
 use borrow.Author.Needs.{needs}
 use Rattle.layout.proofs.add_inputs.Statement.{statement}

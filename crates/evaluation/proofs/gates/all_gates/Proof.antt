@@ -8,7 +8,7 @@ use native.Mathlib.Nat.{add-zero}
 use lib.ListN.{length, take}
 use Rattle.method.specs.Frames.{frames}
 use Rattle.circuit.specs.File.{gatesOf, circuitOf}
-use Rattle.layout.specs.Layout.{allFanins}
+use Rattle.method.specs.Layout.{allFanins}
 use Rattle.circuit.proofs.Parts.{few}
 use Rattle.evaluation.specs.Steps.{Holds, Ready}
 use Rattle.evaluation.proofs.Gating.{rows-start, turn-ready, turn-rows, turn-holds}

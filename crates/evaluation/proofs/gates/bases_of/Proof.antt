@@ -6,7 +6,7 @@ use native.Mathlib.Omega.{arith}
 use lib.ListN.{length, getD, length-set}
 use Rattle.method.specs.Kinds.{mostFanins}
 use Rattle.circuit.specs.File.{faninAt}
-use Rattle.layout.specs.Layout.{firstFrame}
+use Rattle.method.specs.Layout.{firstFrame}
 use Rattle.evaluation.proofs.Driving.{agrees-more}
 use borrow.Author.Needs.{needs}
 use Rattle.evaluation.proofs.gates.bases_of.Statement.{statement}

@@ -3,7 +3,7 @@
 use native.Mathlib.Omega.{arith}
 use denote.Ref.{now}
 use Rattle.circuit.specs.declared.GateRecord.{GateRecord}
-use Rattle.layout.specs.Areas.{areas}
+use Rattle.method.specs.Areas.{areas}
 use Rattle.layout.proofs.Stepping.{Step, step, reached-now, reached-many}
 use borrow.Author.Needs.{needs}
 use Rattle.layout.proofs.gates.add_gate.Statement.{statement}

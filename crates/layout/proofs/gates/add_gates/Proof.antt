@@ -6,9 +6,9 @@ use native.Mathlib.Omega.{arith}
 use denote.Ref.{now}
 use Rattle.circuit.specs.File.{circuitOf}
 use Rattle.circuit.proofs.Parts.{gates-length, few}
-use Rattle.layout.specs.Areas.{areas}
+use Rattle.method.specs.Areas.{areas}
 use Rattle.layout.specs.Steps.{Going}
-use Rattle.layout.proofs.Fitting.{gave-up}
+use Rattle.method.proofs.Fitting.{gave-up}
 use Rattle.layout.proofs.Stepping.{Alike, given-alike, reached-now, reached-many}
 use borrow.Author.Needs.{needs}
 use Rattle.layout.proofs.gates.add_gates.Statement.{statement}

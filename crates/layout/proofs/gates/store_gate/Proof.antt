@@ -4,7 +4,7 @@ use mathlib.Core.Path.{refl}
 use native.Mathlib.Omega.{arith}
 use denote.Ref.{now}
 use lib.ListN.{length}
-use Rattle.layout.proofs.Laying.{pair-stored}
+use Rattle.method.proofs.Laying.{pair-stored}
 use Rattle.layout.proofs.Indexing.{own-some}
 use borrow.Author.Needs.{needs}
 use Rattle.layout.proofs.gates.store_gate.Statement.{statement}

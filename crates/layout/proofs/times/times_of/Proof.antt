@@ -1,7 +1,7 @@
 -- `times_of` meets its contract: the pair of the net says where its times stand.
 -- Assumes nothing.
 use mathlib.Core.Path.{refl}
-use Rattle.layout.proofs.Spans.{part-read}
+use Rattle.method.proofs.Laying.{part-read}
 use borrow.Author.Needs.{needs}
 use Rattle.layout.proofs.times.times_of.Statement.{statement}
 use Rattle.layout.proofs.times.times_of.Tie as tie

@@ -58,7 +58,7 @@ use Rattle.lists.specs.Ladder.{accepted}
 use Rattle.method.specs.declared.Frame.{Frame}
 use Rattle.method.proofs.Frame as Fr
 use Rattle.method.proofs.Frame.Laws as Fr′
-use Rattle.layout.specs.Layout.{frameCount}
+use Rattle.method.specs.Layout.{frameCount}
 use Rattle.marking.specs.declared.Expectation.{Expectation}
 use Rattle.marking.specs.declared.Marking.{Marking}
 use Rattle.marking.specs.declared.Marking.the-variants.{AllMet, Unmet}

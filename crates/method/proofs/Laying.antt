@@ -7,17 +7,17 @@ use native.Mathlib.Omega.{arith}
 use native.Mathlib.Nat.{add-zero, zero-add}
 use native.Mathlib.Numerals.{add-one}
 use lib.ListN.{length, getD, take, drop, set, replicate, length-append, length-drop}
-use lib.Seq.{sets, take-suc, take-take, getD-take, length-take-le}
+use lib.Seq.{sets, take-suc, take-take, getD-take, getD-drop, length-take-le}
 use Rattle.lists.specs.Tables.{tabulateFrom}
 use Rattle.lists.specs.Areas.{padded}
 use Rattle.lists.proofs.Tabled.{from-length, tabulate-snoc}
 use Rattle.lists.proofs.Zeros.{zeros-at}
 use Rattle.lists.proofs.Flat.{flat-snoc, flat-split, flat-even, seam-part, seam-at, seam-room}
 use Rattle.lists.proofs.Padding.{pad-length, pad-least, pad-beyond, pad-more}
 use Rattle.method.specs.Frames.{Frames, inputFrames, noFrames}
-use Rattle.layout.specs.Areas.{Areas, areas}
-use Rattle.layout.specs.Layout.{allTimes, allInertial, allFanins, pairs, laid, partOf, firstFrame, frameCount}
-use Rattle.layout.specs.Steps.{inputsOnly, Room, Inputs}
+use Rattle.method.specs.Areas.{Areas, areas}
+use Rattle.method.specs.Layout.{allTimes, allInertial, allFanins, pairs, laid, partOf, firstFrame, frameCount}
+use Rattle.method.specs.First.{inputsOnly, Room, Inputs}
 
 pub pair-stored : (d : List ℕ) (net first count : ℕ) → set (set d (2 * net) first) (2 * net + 1) count ≡ sets d (2 * net) (first ∷ count ∷ [])
 pair-stored d net first count = rw (add-one (2 * net))
@@ -48,6 +48,18 @@ module _ (fs : List Frames) {a : Areas} (is : a ≡ laid fs a) where
   fanins-are = ap (λ (x : Areas). x .fanins) is
 
 -- ---- net n, read by its pair
+
+-- the numbers from first up to end
+pub part-read : (d t : List ℕ) (n : ℕ) {first end : ℕ} → first ≡ getD d (2 * n) 0 → end ≡ first + getD d (2 * n + 1) 0 → take (end - first) (drop first t) ≡ partOf d t n
+unfolding partOf
+part-read d t n {first} {end} p q =
+    let m : end - first ≡ getD d (2 * n + 1) 0 = omega arith in
+    rw (m, p)
+
+-- entry k of net n's part of an area
+pub part-entry : (d area : List ℕ) (n k : ℕ) → k < frameCount d n → getD area (firstFrame d n + k) 0 ≡ getD (partOf d area n) k 0
+unfolding partOf
+part-entry d area n k h = sym (getD-take (frameCount d n) (drop (firstFrame d n) area) k 0 h ∙ getD-drop (firstFrame d n) area k 0)
 
 pairs-first : (at : ℕ) (fs : List Frames) (z : List ℕ) (n : ℕ) → n < length fs → getD (pairs at fs ++ z) (2 * n) 0 ≡ at + length (allTimes (take n fs))
 unfolding pairs flatMap

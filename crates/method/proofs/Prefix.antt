@@ -1,4 +1,4 @@
--- The frames of the inputs and the first gates: a gate more, how many nets, how late they get, how much room they take.
+-- The frames of the inputs and the first gates: a gate more, how many nets, how much room they take.
 -- Assumes nothing.
 use Prim.Native.Nat.{ℕ, zero, suc, _+_, _*_, _≤_, _<_}
 use mathlib.Core.Path.{_≡_, refl, ap, _∙_}
@@ -9,20 +9,18 @@ use lib.ListN.{length, getD, length-append, length-map, take}
 use lib.Seq.{take-suc, take-length, length-take-le}
 use Rattle.lists.specs.Tables.{tabulateFrom}
 use Rattle.lists.proofs.Flat.{flat-map}
 use Rattle.method.specs.Kinds.{mostFanins}
 use Rattle.method.specs.Circuit.{Gate, Circuit, noGate, gateAt}
 use Rattle.method.specs.Nets.{nets}
 use Rattle.method.specs.Times.{gateTimes}
 use Rattle.method.specs.Indices.{inertialIndices}
 use Rattle.method.specs.Frames.{Frames, inputFrames, faninRow, framesWith, gateFrames, noFrames, frames, framesAt}
 use Rattle.method.proofs.Nets.{nets-count, nets-snoc}
-use Rattle.method.proofs.Planned.{inertial-length, rows-length, ends-at}
-use Rattle.circuit.specs.Limits.{mostTime, Within}
-use Rattle.circuit.proofs.Bounded.{time-low, within-first}
-use Rattle.layout.specs.Layout.{allTimes, allInertial, allFanins}
-use Rattle.layout.specs.Steps.{firstGates, inputsOnly}
-use Rattle.layout.proofs.Laying.{inertial-snoc, total-more, fanins-more}
+use Rattle.method.proofs.Planned.{inertial-length, rows-length}
+use Rattle.method.specs.Layout.{allTimes, allInertial, allFanins}
+use Rattle.method.specs.First.{firstGates, inputsOnly}
+use Rattle.method.proofs.Laying.{inertial-snoc, total-more, fanins-more}
 use Rattle.method.proofs.Netwise.{net-by-net}
 
 -- ---- a gate more
 
@@ -62,13 +60,6 @@ module _ (c : Circuit) where
   pub next-rows : (j : ℕ) → flatten (nextFrames c j .rows) ≡ flatMap (faninRow (gateAt c j .delay) (faninTimes c j)) (nextFrames c j .times)
   unfolding gateFrames framesWith
   next-rows j = flat-map (faninRow (gateAt c j .delay) (faninTimes c j)) (gateTimes (gateAt c j .delay) (faninTimes c j))
-
--- ---- how late
-
-pub frames-early : (c : Circuit) → Within c → (j : ℕ) → j ≤ length (c .gates) → (n : ℕ) → n < c .inputs + j → (k : ℕ) → getD (framesAt (firstGates j c) n .times) k 0 ≤ mostTime
-frames-early c w j h n l =
-    ends-at mostTime (framesAt (firstGates j c) n .times)
-    (λ t e. time-low (firstGates j c) (within-first c j h w) n t (rw (length-take-le j (c .gates) h) l) e)
 
 -- ---- how much room
 

@@ -13,15 +13,14 @@ use borrow.Author.Tests.{le-leb, leb-true}
 use Rattle.lists.specs.Tables.{tabulateFrom, every}
 use Rattle.lists.proofs.Choices.{either, and-left, and-right, and-both}
 use Rattle.lists.proofs.Tabled.{every-snoc, every-at}
 use Rattle.method.specs.Circuit.{Circuit}
 use Rattle.method.specs.Frames.{Frames, inputFrames, noFrames, frames}
-use Rattle.method.specs.Limits.{mostNetFrames}
-use Rattle.layout.specs.Limits.{mostTotalFrames}
-use Rattle.layout.specs.Layout.{allTimes}
-use Rattle.layout.specs.Sums.{fits}
-use Rattle.layout.specs.Steps.{firstGates, inputsOnly}
-use Rattle.layout.proofs.Laying.{total-more, inputs-frames}
-use Rattle.layout.proofs.Prefix.{nextFrames, frames-next}
+use Rattle.method.specs.Limits.{mostNetFrames, mostTotalFrames}
+use Rattle.method.specs.Layout.{allTimes}
+use Rattle.method.specs.Sums.{fits}
+use Rattle.method.specs.First.{firstGates, inputsOnly}
+use Rattle.method.proofs.Laying.{total-more, inputs-frames}
+use Rattle.method.proofs.Prefix.{nextFrames, frames-next}
 
 abbrev small : Frames → Bool
 small f = leb (length (f .times)) mostNetFrames

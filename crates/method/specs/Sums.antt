@@ -5,11 +5,10 @@ use mathlib.Core.List.{List, [], _∷_, map}
 use lib.ListN.{length}
 use lib.Dec.{leb}
 use Rattle.lists.specs.Tables.{every}
 use Rattle.method.specs.Frames.{Frames}
-use Rattle.method.specs.Limits.{mostNetFrames}
-use Rattle.layout.specs.declared.Totals.{Totals}
-use Rattle.layout.specs.Limits.{mostTotalFrames}
-use Rattle.layout.specs.Layout.{allTimes, allFanins}
+use Rattle.method.specs.Limits.{mostNetFrames, mostTotalFrames}
+use Rattle.method.specs.declared.Totals.{Totals}
+use Rattle.method.specs.Layout.{allTimes, allFanins}
 
 -- 13: Has every net at most 64 frames, and all nets together at most 2,048?
 unfoldable pub fits : List Frames → Bool

@@ -3,8 +3,8 @@ use Prim.Native.Nat.{ℕ, _+_, _*_}
 use mathlib.Core.List.{List, [], _∷_, flatMap, flatten}
 use lib.ListN.{length, getD, take, drop}
 use Rattle.lists.specs.Areas.{padded}
 use Rattle.method.specs.Frames.{Frames}
-use Rattle.layout.specs.Areas.{Areas, areas}
+use Rattle.method.specs.Areas.{Areas, areas}
 
 abbrev pub allTimes : List Frames → List ℕ
 allTimes fs = flatMap (λ (f : Frames). f .times) fs

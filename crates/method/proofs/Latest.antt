@@ -6,8 +6,8 @@ use mathlib.Core.List.{List, [], _∷_, _++_}
 use native.Mathlib.Omega.{arith}
 use native.Mathlib.Nat.{zero-max, max-eq-left, max-eq-right}
 use lib.ListN.{length, getD}
 use Rattle.method.proofs.Rising.{Rise, Starts}
-use Rattle.layout.specs.Sums.{latest}
+use Rattle.method.specs.Sums.{latest}
 
 max-assoc : (a b c : ℕ) → max a (max b c) ≡ max (max a b) c
 max-assoc a b c = omega arith
