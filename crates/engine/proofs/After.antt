@@ -24,7 +24,7 @@ use Rattle.method.specs.Lanes.{laneLevel, laneCount, AgreeIn}
 use Rattle.method.proofs.Netwise.{net-by-net}
 use Rattle.method.proofs.Agreement.{agreement}
 use Rattle.method.proofs.Lanes.{in-lanes}
-use Rattle.circuit.specs.File.{circuitOf}
+use Rattle.circuit.specs.File.{inputsOf, circuitOf}
 use Rattle.circuit.proofs.Bounded.{time-small}
 use Rattle.method.specs.Limits.{mostNetFrames}
 use Rattle.method.specs.Areas as areas
@@ -33,10 +33,13 @@ use Rattle.method.proofs.Fitting.{fits-total, fits-net}
 use Rattle.method.proofs.Laying.{pair-first, pair-count, times-part, frames-end}
 use Rattle.engine.specs.Areas.{Areas, allCleared}
 use Rattle.method.specs.Values.{netCount}
+use Rattle.planner.specs.Plan.{planOf}
+use Rattle.engine.specs.Questions.{valuesLength, wordsSuit}
 use Rattle.engine.specs.Run.{runLeft, runOf}
 use Rattle.looks.specs.Look.{lookQuestions, levelOf, countOf}
 use Rattle.engine.specs.After.{Ran, NetParts, After, Alike, AfterRun, timesOf, valuesOf, levelIn, countIn, lastTime}
 use Rattle.looks.proofs.Seeing.{all-yes}
+use Rattle.engine.proofs.Answering.{plan-first}
 use Rattle.engine.proofs.Accepted.{Held, held, filled-plan}
 use Rattle.evaluation.proofs.Parts.{nets-count, word-each, words-part}
 use Rattle.circuit.proofs.Parts.{circuit-within}
@@ -167,5 +170,13 @@ unfolding runOf
 words-alike file before after before′ after′ a p q =
     (rw (p, q), plan-left _ (circuitOf file) before after a ∙ rw (p, q) (sym (plan-left _ (circuitOf file) before′ after′ a)))
 
+-- what Run shares with Plan
+plan-alike : (file before after : List ℕ) (a : Areas) → length (a .values) ≡ valuesLength → wordsSuit (inputsOf file) (length before) (length after) ≡ true
+    → (runOf file before after a .answer ≡ planOf file (a .plan) .answer) × (runOf file before after a .left .plan ≡ planOf file (a .plan) .left)
+unfolding runOf planOf
+plan-alike file before after a v w =
+    let same = plan-first file a (length before) (length after) v w in
+    (rw same, plan-left _ (circuitOf file) before after a ∙ rw same)
+
 pub after-runs : AfterRun
-after-runs = record { after-run = after-run; runs-alike = runs-alike; words-alike = words-alike }
+after-runs = record { after-run = after-run; runs-alike = runs-alike; words-alike = words-alike; plan-alike = plan-alike }

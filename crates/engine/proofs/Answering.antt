@@ -2,11 +2,12 @@
 -- Assumes nothing.
 use Prim.Native.Nat.{ℕ}
 use mathlib.Core.Path.{_≡_, refl, sym, ap, ap₂, _∙_}
-use mathlib.Core.Bool.{true, false}
-use mathlib.Core.List.{List, []}
+use mathlib.Core.Bool.{Bool, true, false, _&&_}
+use mathlib.Core.List.{List, [], _∷_, append-assoc}
 use native.Mathlib.Omega.{arith}
 use lib.ListN.{length}
-use Rattle.lists.specs.Ladder.{firstNo, Answer, unless}
+use borrow.Author.Tests.{eq-eqb}
+use Rattle.lists.specs.Ladder.{Question, _orElse_, firstNo, Answer, unless}
 use Rattle.lists.specs.Outcome.{Outcome, outcome}
 use Rattle.lists.specs.Areas.{cleared, padded}
 use Rattle.lists.proofs.Ladders.{Numbered, numbered-append, numbered-more, first, first-here, first-most, firstNo-append, ask-yes, ask-no, all-asked, unless-none, unless-some}
@@ -22,11 +23,12 @@ use Rattle.layout.specs.declared.Progress.the-variants as P
 use Rattle.planner.specs.declared.Planning.the-variants as Q
 use Rattle.method.specs.Sums.{fits, totalsOf}
 use Rattle.layout.specs.Steps.{Filled}
+use Rattle.planner.specs.Questions as plan
 use Rattle.planner.specs.Questions.{lastQuestion}
 use Rattle.planner.specs.Plan.{onPaper}
 use Rattle.method.specs.Areas as layout
 use Rattle.engine.specs.Areas.{Areas, areas, allCleared}
-use Rattle.engine.specs.Questions.{ownQuestions, firstQuestions, questions}
+use Rattle.engine.specs.Questions.{valuesLength, areasSuit, wordsSuit, ownQuestions, firstQuestions, questions}
 use Rattle.engine.specs.Run.{filled, runLeft, runOf}
 use Rattle.engine.specs.Steps.{Asked}
 
@@ -49,6 +51,21 @@ module _ (file : List ℕ) (a : Areas) (before after : ℕ) where
   pub joined : firstNo (questions file a before after) ≡ first (firstNo (firstQuestions file a before after)) (firstNo (lastQuestion file))
   unfolding questions
   joined = firstNo-append 11 (firstQuestions file a before after) (lastQuestion file) first-numbered
+
+-- where the values and the word lists have their lengths, the first "no" is Plan's
+own-alike : (suits : Bool) {values words : Bool} → values ≡ true → words ≡ true → (qs : List Question) → firstNo ((suits && values orElse 10) ∷ (words orElse 11) ∷ qs) ≡ firstNo ((suits orElse 10) ∷ qs)
+unfolding firstNo
+own-alike true v w qs = rw (v, w)
+own-alike false v w qs = refl
+
+pub plan-first : (file : List ℕ) (a : Areas) (before after : ℕ) → length (a .values) ≡ valuesLength → wordsSuit (inputsOf file) before after ≡ true
+    → firstNo (questions file a before after) ≡ firstNo (plan.questions file (a .plan))
+unfolding questions firstQuestions areasSuit plan.questions
+plan-first file a before after v w =
+    ap firstNo (append-assoc (reader.questions file) (ownQuestions (inputsOf file) a before after) (lastQuestion file))
+    ∙ firstNo-append 9 (reader.questions file) _ (questions-numbered file)
+    ∙ ap (first (firstNo (reader.questions file))) (own-alike (plan.areasSuit (a .plan)) (eq-eqb _ _ v) w (lastQuestion file))
+    ∙ sym (firstNo-append 9 (reader.questions file) (plan.ownQuestions file (a .plan)) (questions-numbered file))
 
 module _ (file before after : List ℕ) (a : Areas) where
   -- what the first "no" leaves

@@ -1,7 +1,7 @@
 -- Questions 1 to 11, as they are asked, and what it says that all of them were answered yes.
 -- Assumes nothing.
 use Prim.Native.Nat.{ℕ}
-use mathlib.Core.Path.{_≡_, sym, _∙_}
+use mathlib.Core.Path.{_≡_, sym, ap, _∙_}
 use mathlib.Core.Bool.{Bool, true, false, not}
 use mathlib.Core.List.{List, [], _∷_}
 use native.Mathlib.Omega.{arith}
@@ -10,7 +10,7 @@ use lib.ListN.{length}
 use borrow.Author.Tests.{eqb-true, eq-eqb, ne-eqb, not-true, not-false}
 use Rattle.lists.specs.Ladder.{_orElse_, firstNo, accepted, refused, unless}
 use Rattle.lists.proofs.Choices.{and-left, and-right}
-use Rattle.lists.proofs.Ladders.{first, first-here, first-none, firstNo-append, asked, ask-yes, ask-no, all-asked, accepted-none, refused-some}
+use Rattle.lists.proofs.Ladders.{first, first-here, first-none, firstNo-append, asked, ask-yes, ask-no, all-asked, accepted-none, refused-some, unless-none, unless-some}
 use Rattle.circuit.specs.File.{inputsOf, gatesOf}
 use Rattle.circuit.specs.declared.Reading.{Reading}
 use Rattle.circuit.specs.declared.Reading.the-variants as R
@@ -19,7 +19,7 @@ use Rattle.circuit.proofs.Gated.{questions-numbered}
 use Rattle.method.specs.Areas as planner
 use Rattle.planner.specs.Questions as plan
 use Rattle.engine.specs.Areas.{Areas, areas}
-use Rattle.engine.specs.Questions.{valuesLength, areasSuit, wordsSuit, ownQuestions, firstQuestions}
+use Rattle.engine.specs.Questions.{valuesLength, areasSuit, wordsSuit, ownQuestions, firstQuestions, questionsOf}
 use Rattle.engine.specs.Steps.{Asked}
 use Rattle.circuit.proofs.Parts.{inputs-are, gates-are}
 
@@ -53,38 +53,68 @@ module _ (inputs : ℕ) (d t i f v : List ℕ) (before after : ℕ) {ok : Bool} 
         unfolding wordsSuit
         none-11 y = sym (past-10 ∙ ask-yes (wordsSuit inputs before after) 11 [] (rw (eq-eqb _ _ y3, eq-eqb _ _ y)) ∙ all-asked)
 
--- ---- questions 1 to 11
+-- ---- questions 1 to 11, as `questions` answers them
 
 module _ (file : List ℕ) (a : Areas) (before after : ℕ) where
   joined : firstNo (firstQuestions file a before after) ≡ first (firstNo (reader.questions file)) (firstNo (ownQuestions (inputsOf file) a before after))
   unfolding firstQuestions
   joined = firstNo-append 9 (reader.questions file) (ownQuestions (inputsOf file) a before after) (questions-numbered file)
 
+  refusal : {n : ℕ} → n ≡ firstNo (firstQuestions file a before after) → (n ≡ 0 → ⊥) → reader.onPaper (R.Refused n) ≡ questionsOf file a before after
+  unfolding questionsOf reader.onPaper
+  refusal {n} e some = sym (rw (← e) (unless-some n (reader.sizeOf file) some))
+
   module _ {r : Reading} (f : reader.onPaper r ≡ reader.readOf file) where
-    pub read-no : {n : ℕ} → r ≡ R.Refused n → (n ≡ firstNo (firstQuestions file a before after)) × (n ≡ 0 → ⊥)
+    pub read-no : {n : ℕ} → r ≡ R.Refused n → reader.onPaper (R.Refused n) ≡ questionsOf file a before after
     unfolding reader.onPaper reader.readOf
     read-no {n} e =
         let g : unless (firstNo (reader.questions file)) (reader.sizeOf file) ≡ refused n = sym f ∙ rw e in
         let q = refused-some (firstNo (reader.questions file)) (reader.sizeOf file) g in
         let some : n ≡ 0 → ⊥ = λ z. omega (arith, q .1) in
-        (sym (joined ∙ rw (q .0) (first-here n _ some)), some)
+        refusal (sym (joined ∙ rw (q .0) (first-here n _ some))) some
 
-    module _ {inputs gates : ℕ} (e : r ≡ R.Accepted inputs gates) where
+    module _ {inputs gates : ℕ} (e : r ≡ R.Accepted inputs gates) {n : ℕ} (is : n ≡ firstNo (ownQuestions inputs a before after)) where
       answered : reader.readOf file ≡ accepted (record { inputs = inputs; gates = gates })
       unfolding reader.onPaper
       answered = sym f ∙ rw e
 
-      pub own-no : {n : ℕ} → n ≡ firstNo (ownQuestions inputs a before after) → n ≡ firstNo (firstQuestions file a before after)
+      own-is : n ≡ firstNo (firstQuestions file a before after)
       unfolding reader.readOf
-      own-no is =
+      own-is =
           let q : firstNo (reader.questions file) ≡ 0 = accepted-none (firstNo (reader.questions file)) (reader.sizeOf file) answered .0 in
           is ∙ rw (inputs-are file answered) (sym (joined ∙ rw q))
 
-      pub all-asked-yes : {n : ℕ} → n ≡ firstNo (ownQuestions inputs a before after) → n ≡ 0 → Asked file a before after × (inputs ≡ inputsOf file) × (gates ≡ gatesOf file)
-      all-asked-yes is z =
-          let i = inputs-are file answered in
-          let g = gates-are file answered in
-          (record { read = answered ∙ rw (i, g); none = sym (own-no is) ∙ z }, i, g)
+      pub own-no : (n ≡ 0 → ⊥) → reader.onPaper (R.Refused n) ≡ questionsOf file a before after
+      own-no some = refusal own-is some
+
+      pub own-none : n ≡ 0 → reader.onPaper (R.Accepted inputs gates) ≡ questionsOf file a before after
+      unfolding questionsOf reader.onPaper reader.sizeOf
+      own-none z = sym (unless-none _ (reader.sizeOf file) (sym own-is ∙ z) ∙ rw (← inputs-are file answered, ← gates-are file answered))
+
+  -- what their answer says
+  module _ {r : Reading} (f : reader.onPaper r ≡ questionsOf file a before after) where
+    pub asked-no : {n : ℕ} → r ≡ R.Refused n → (n ≡ firstNo (firstQuestions file a before after)) × (n ≡ 0 → ⊥)
+    unfolding reader.onPaper questionsOf
+    asked-no {n} e =
+        let g : unless (firstNo (firstQuestions file a before after)) (reader.sizeOf file) ≡ refused n = sym f ∙ rw e in
+        let q = refused-some (firstNo (firstQuestions file a before after)) (reader.sizeOf file) g in
+        (sym (q .0), λ z. omega (arith, q .1))
+
+    module _ {inputs gates : ℕ} (e : r ≡ R.Accepted inputs gates) where
+      yes : (firstNo (firstQuestions file a before after) ≡ 0) × (reader.sizeOf file ≡ record { inputs = inputs; gates = gates })
+      unfolding reader.onPaper questionsOf
+      yes = accepted-none (firstNo (firstQuestions file a before after)) (reader.sizeOf file) (sym f ∙ rw e)
+
+      pub asked-none : firstNo (firstQuestions file a before after) ≡ 0
+      asked-none = yes .0
+
+      pub asked-inputs : inputs ≡ inputsOf file
+      unfolding reader.sizeOf
+      asked-inputs = sym (ap (λ (s : reader.Size). s .inputs) (yes .1))
+
+      pub asked-gates : gates ≡ gatesOf file
+      unfolding reader.sizeOf
+      asked-gates = sym (ap (λ (s : reader.Size). s .gates) (yes .1))
 
 -- ---- all answered yes
 
@@ -111,6 +141,14 @@ passed file a before after h =
     let x = areas-pass a (s .0) in
     let y = words-pass (inputsOf file) before after (w .0) in
     record { reads = q .0; suits = x .0; values = x .1; before-each = y .0; after-each = y .1 }
+
+-- so a run may follow
+pub asked-yes : (file : List ℕ) (a : Areas) (before after : ℕ) {r : Reading} → reader.onPaper r ≡ questionsOf file a before after → {inputs gates : ℕ} → r ≡ R.Accepted inputs gates
+    → Asked file a before after × (inputs ≡ inputsOf file) × (gates ≡ gatesOf file)
+unfolding reader.readOf reader.sizeOf
+asked-yes file a before after f e =
+    let z = asked-none file a before after f e in
+    (record { read = unless-none _ (reader.sizeOf file) (passed file a before after z .reads); none = z }, asked-inputs file a before after f e, asked-gates file a before after f e)
 
 -- of the areas only the lengths are asked about: others that suit pass with the same file and lists
 pub passed-again : (file : List ℕ) (a a′ : Areas) (before after : ℕ) → firstNo (firstQuestions file a before after) ≡ 0 → areasSuit a′ ≡ true → firstNo (firstQuestions file a′ before after) ≡ 0

@@ -17,12 +17,14 @@ use Rattle.method.specs.Machine.{machine}
 use Rattle.method.specs.Packed.{laneOf, packedValues}
 use Rattle.method.specs.Agreement.{changedTimes, potential}
 use Rattle.method.specs.Lanes.{AgreeIn}
-use Rattle.circuit.specs.File.{circuitOf}
+use Rattle.circuit.specs.File.{inputsOf, circuitOf}
 use Rattle.method.specs.declared.Totals.{Totals}
 use Rattle.method.specs.Limits.{mostNetFrames, mostTotalFrames}
 use Rattle.method.specs.Layout.{firstFrame, frameCount, partOf}
 use Rattle.engine.specs.Areas.{Areas}
 use Rattle.method.specs.Values.{netCount}
+use Rattle.planner.specs.Plan.{planOf}
+use Rattle.engine.specs.Questions.{valuesLength, wordsSuit}
 use Rattle.engine.specs.Run.{runOf}
 use Rattle.looks.specs.Look.{levelOf, countOf}
 
@@ -91,3 +93,7 @@ pub record AfterRun : Type 0 where
   -- same four plan areas
   pub words-alike : (file before after before′ after′ : List ℕ) (a : Areas) → length before ≡ length before′ → length after ≡ length after′
       → (runOf file before after a .answer ≡ runOf file before′ after′ a .answer) × (runOf file before after a .left .plan ≡ runOf file before′ after′ a .left .plan)
+  -- Run's totals and plan areas are Plan's: where the values and the word lists have their lengths, Run answers what Plan
+  -- answers of this file and these four areas, and leaves in them what Plan leaves
+  pub plan-alike : (file before after : List ℕ) (a : Areas) → length (a .values) ≡ valuesLength → wordsSuit (inputsOf file) (length before) (length after) ≡ true
+      → (runOf file before after a .answer ≡ planOf file (a .plan) .answer) × (runOf file before after a .left .plan ≡ planOf file (a .plan) .left)

@@ -4,7 +4,7 @@ use mathlib.Core.Bool.{Bool, _&&_}
 use mathlib.Core.List.{List, [], _∷_, _++_}
 use lib.ListN.{length}
 use lib.Dec.{eqb}
-use Rattle.lists.specs.Ladder.{Question, _orElse_}
+use Rattle.lists.specs.Ladder.{Question, _orElse_, Answer, answer}
 use Rattle.circuit.specs.File.{inputsOf}
 use Rattle.circuit.specs.Questions as reader
 use Rattle.planner.specs.Questions as planner
@@ -28,6 +28,10 @@ ownQuestions inputs a before after = (areasSuit a orElse 10) ∷ (wordsSuit inpu
 -- 1 to 11
 unfoldable pub firstQuestions : List ℕ → Areas → ℕ → ℕ → List Question
 firstQuestions file a before after = reader.questions file ++ ownQuestions (inputsOf file) a before after
+
+-- what these answer by themselves, for calls that ask more before they run: the number of the first "no", or I and G
+unfoldable pub questionsOf : List ℕ → Areas → ℕ → ℕ → Answer reader.Size
+questionsOf file a before after = answer (firstQuestions file a before after) (reader.sizeOf file)
 
 -- and 13: Has every net at most 64 frames, and all nets together at most 2,048?
 unfoldable pub questions : List ℕ → Areas → ℕ → ℕ → List Question

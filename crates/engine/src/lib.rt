@@ -1,11 +1,11 @@
 // Run: a circuit simulated for 64 pattern pairs at once.
 ghost use mathlib.Core.Path.{_≡_};
 ghost use lib.ListN.{length};
-ghost use Rattle.lists.specs.Ladder.{firstNo};
 ghost use Rattle.lists.specs.Outcome.{outcome};
+ghost use Rattle.circuit.specs.Questions as reader;
 ghost use Rattle.planner.specs.Plan.{onPaper};
 ghost use Rattle.engine.specs.Areas.{areas};
-ghost use Rattle.engine.specs.Questions.{firstQuestions};
+ghost use Rattle.engine.specs.Questions.{questionsOf};
 ghost use Rattle.engine.specs.Run.{runOf};
 
 mod running;
@@ -29,8 +29,47 @@ pub fn run(
 ) -> Planning
     ensures { λ r. ⌜ outcome (onPaper r) (areas (now (directory .exit)) (now (times .exit)) (now (inertial .exit)) (now (fanins .exit)) (now (values .exit))) ≡ runOf (now (file .entry)) (now (before .entry)) (now (after .entry)) (areas (now (directory .entry)) (now (times .entry)) (now (inertial .entry)) (now (fanins .entry)) (now (values .entry))) ⌝ }
 {
-    match circuit::read(file) {
+    match questions(
+        file,
+        directory,
+        times,
+        inertial,
+        fanins,
+        values,
+        before,
+        after,
+    ) {
         Reading::Refused(n) => Planning::Refused(n),
+        Reading::Accepted { inputs, gates } => simulate(
+            file,
+            inputs,
+            gates,
+            directory,
+            times,
+            inertial,
+            fanins,
+            values,
+            before,
+            after,
+        ),
+    }
+}
+
+// What Run asks from 1 to 11, for calls that ask more before they run. It answers what the reader does.
+pub fn questions(
+    file: &[u8],
+    directory: &[u16],
+    times: &[u16],
+    inertial: &[u16],
+    fanins: &[u16],
+    values: &[u64],
+    before: &[u64],
+    after: &[u64],
+) -> Reading
+    ensures { λ r. ⌜ reader.onPaper r ≡ questionsOf (now (file .entry)) (areas (now (directory .entry)) (now (times .entry)) (now (inertial .entry)) (now (fanins .entry)) (now (values .entry))) (length (now (before .entry))) (length (now (after .entry))) ⌝ }
+{
+    match circuit::read(file) {
+        Reading::Refused(n) => Reading::Refused(n),
         Reading::Accepted { inputs, gates } => {
             let fault = own_fault(
                 inputs,
@@ -43,48 +82,9 @@ pub fn run(
                 after,
             );
             if fault != 0 {
-                return Planning::Refused(fault);
+                return Reading::Refused(fault);
             }
-            simulate(
-                file,
-                inputs,
-                gates,
-                directory,
-                times,
-                inertial,
-                fanins,
-                values,
-                before,
-                after,
-            )
+            Reading::Accepted { inputs, gates }
         }
-    }
-}
-
-// What Run asks from 1 to 11, for calls that ask more before they run: the number of the first "no", or 0.
-pub fn questions(
-    file: &[u8],
-    directory: &[u16],
-    times: &[u16],
-    inertial: &[u16],
-    fanins: &[u16],
-    values: &[u64],
-    before: &[u64],
-    after: &[u64],
-) -> u8
-    ensures { λ r. ⌜ r ≡ firstNo (firstQuestions (now (file .entry)) (areas (now (directory .entry)) (now (times .entry)) (now (inertial .entry)) (now (fanins .entry)) (now (values .entry))) (length (now (before .entry))) (length (now (after .entry)))) ⌝ }
-{
-    match circuit::read(file) {
-        Reading::Refused(n) => n,
-        Reading::Accepted { inputs, gates } => own_fault(
-            inputs,
-            directory,
-            times,
-            inertial,
-            fanins,
-            values,
-            before,
-            after,
-        ),
     }
 }

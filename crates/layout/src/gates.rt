@@ -10,13 +10,13 @@ ghost use Rattle.method.specs.Areas.{areas};
 ghost use Rattle.layout.specs.Steps.{Fed, Given, Going, Own, Place, Reached, Stored, spans};
 use crate::MOST_FANINS;
 use crate::Progress;
-use method::Totals;
 use crate::indices::index_rows;
 use crate::indices::inertial_row;
 use crate::times::gate_times;
 use circuit::GateRecord;
 use method::Net;
 use method::Time;
+use method::Totals;
 
 const MOST_NET_FRAMES: usize = 64;
 

@@ -1,67 +1,69 @@
--- What the tests of Mark's own functions say: how many nets there are, whether an expectation suits, and whether a frame
--- breaks one.
+-- What the tests of Mark's own functions say: how many nets an expectation needs, what it says that it suits, and whether a
+-- frame breaks it.
 -- Assumes nothing.
-use Prim.Native.Nat.{ℕ, _+_, _≤_, _<_}
-use mathlib.Core.Path.{_≡_, sym, _∙_}
-use mathlib.Core.Bool.{Bool, true, false, _&&_, Bool·beq, and-assoc}
-use mathlib.Core.List.{List}
+use Prim.Native.Nat.{ℕ, _+_, _≤_, _<_, max}
+use mathlib.Core.Path.{_≡_, sym, ap, ap₂, _∙_}
+use mathlib.Core.Logic.{inl, inr}
+use mathlib.Core.Bool.{Bool, true, false, cond, _&&_, Bool·beq, and-true, and-false}
+use mathlib.Core.List.{List, [], _∷_}
 use native.Mathlib.Omega.{arith}
-use lib.Dec.{ltb, leb, eqb, leb·suc-suc}
+use native.Mathlib.Numerals.{add-one}
+use lib.Dec.{ltb, leb, eqb}
 use lib.ListN.{getD}
-use borrow.Author.Tests.{ltb-true, leb-true, le-leb, lt-leb}
-use Rattle.lists.specs.Ladder.{accepted}
+use borrow.Author.Tests.{ltb-true, leb-true, lt-ltb, le-ltb, le-leb, lt-leb}
 use Rattle.lists.specs.Every.{Every}
 use Rattle.lists.proofs.Each.{every-true}
-use Rattle.lists.proofs.Choices.{and-left, and-right}
+use Rattle.lists.proofs.Choices.{order, and-left, and-right}
 use Rattle.method.specs.Words.{lanes, lane}
-use Rattle.circuit.specs.declared.Reading.{Reading}
-use Rattle.circuit.specs.declared.Reading.the-variants as R
-use Rattle.circuit.specs.Questions.{readOf, onPaper}
-use Rattle.circuit.proofs.Parts.{inputs-are, gates-are, few}
 use Rattle.method.specs.Layout.{firstFrame, frameCount}
 use Rattle.marking.specs.declared.Expectation.{Expectation}
 use Rattle.marking.specs.Questions.{suits, listSuits}
-use Rattle.marking.specs.Steps.{netsIn, netsOf, breaksAt}
+use Rattle.marking.specs.Steps.{noCircuit, netsFor, netsNeeded, breaksAt}
 
--- ---- how many nets there are
+-- ---- how many nets a circuit must have for an expectation
 
-module _ (file : List ℕ) {r : Reading} (f : onPaper r ≡ readOf file) where
-  pub nets-none : {n : ℕ} → r ≡ R.Refused n → 0 ≡ netsOf file
-  unfolding onPaper netsIn
-  nets-none e = rw (← f, e)
+module _ (e : Expectation) where
+  pub needs-lane : lanes ≤ e .lane → noCircuit ≡ netsFor e
+  unfolding netsFor
+  needs-lane h = rw (le-ltb (e .lane) lanes h)
 
-  module _ {inputs gates : ℕ} (e : r ≡ R.Accepted inputs gates) where
-    pub nets-are : inputs + gates ≡ netsOf file
-    unfolding onPaper netsIn
-    nets-are = rw (← f, e)
+  module _ (y1 : e .lane < lanes) where
+    pub needs-span : e .to .0 < e .from .0 → noCircuit ≡ netsFor e
+    unfolding netsFor
+    needs-span h = rw (lt-ltb (e .lane) lanes y1, lt-leb (e .from .0) (e .to .0) h)
 
-    answered : readOf file ≡ accepted (record { inputs = inputs; gates = gates })
-    unfolding onPaper
-    answered = sym f ∙ rw e
+    module _ (y2 : e .from .0 ≤ e .to .0) where
+      pub needs-level : 1 < e .level → noCircuit ≡ netsFor e
+      unfolding netsFor
+      needs-level h = rw (lt-ltb (e .lane) lanes y1, le-leb (e .from .0) (e .to .0) y2, lt-leb (e .level) 1 h)
 
-    -- 32 inputs and 128 gates at most
-    pub nets-few : inputs + gates ≤ 160
-    nets-few =
-        let i = inputs-are file answered in
-        let g = gates-are file answered in
-        omega (arith, i, g, few file (answered ∙ rw (i, g)))
+      pub needs-net : e .level ≤ 1 → e .net .0 + 1 ≡ netsFor e
+      unfolding netsFor
+      needs-net h = rw (lt-ltb (e .lane) lanes y1, le-leb (e .from .0) (e .to .0) y2, le-leb (e .level) 1 h)
+
+-- a circuit that has as many passes question 12
+both-by : (n nets : ℕ) → nets < noCircuit → (b : Bool) → ltb n nets && b ≡ leb (cond b (n + 1) noCircuit) nets
+both-by n nets h true = and-true (ltb n nets) ∙ ap (λ (m : ℕ). leb m nets) (sym (add-one n))
+both-by n nets h false = and-false (ltb n nets) ∙ sym (lt-leb noCircuit nets h)
+
+suits-by : (nets : ℕ) → nets < noCircuit → (e : Expectation) → suits nets e ≡ leb (netsFor e) nets
+unfolding suits netsFor
+suits-by nets h e = both-by (e .net .0) nets h (ltb (e .lane) lanes && (leb (e .from .0) (e .to .0) && leb (e .level) 1))
+
+both-least : (a b n : ℕ) → leb a n && leb b n ≡ leb (max a b) n
+both-least a b n =
+    elim (order a n) [
+      | inl h ↦ rw (le-leb a n h)
+          (elim (order b n) [ inl k ↦ le-leb b n k ∙ sym (le-leb (max a b) n (omega arith)) | inr k ↦ lt-leb b n k ∙ sym (lt-leb (max a b) n (omega arith)) ])
+      | inr h ↦ rw (lt-leb a n h) (sym (lt-leb (max a b) n (omega arith)))
+    ]
+
+pub list-suits-by : (nets : ℕ) → nets < noCircuit → (list : List Expectation) → listSuits nets list ≡ leb (netsNeeded list) nets
+unfolding listSuits netsNeeded
+list-suits-by nets h [] = sym (le-leb 0 nets (omega arith))
+list-suits-by nets h (e ∷ list) = ap₂ _&&_ (suits-by nets h e) (list-suits-by nets h list) ∙ both-least (netsFor e) (netsNeeded list) nets
 
 -- ---- an expectation suits
-
--- what `b && rest` gives, on both ways: a `b` that is false stands
-pub both-then : {b rest x : Bool} → b ≡ true → x ≡ rest → x ≡ b && rest
-both-then h e = rw h e
-
-pub both-else : {b : Bool} (rest : Bool) {x : Bool} → b ≡ false → x ≡ b → x ≡ b && rest
-both-else rest h e = e ∙ rw h
-
-pub suits-is : (nets : ℕ) (e : Expectation) {x y z : Bool} → x ≡ ltb (e .net .0) nets && ltb (e .lane) lanes → y ≡ x && leb (e .from .0) (e .to .0) → z ≡ y && ltb (e .level) 2 → z ≡ suits nets e
-unfolding suits
-suits-is nets e p q r =
-    let a = ltb (e .net .0) nets in
-    let b = ltb (e .lane) lanes in
-    let c = leb (e .from .0) (e .to .0) in
-    r ∙ rw (q, p, leb·suc-suc (e .level) 1) (and-assoc (a && b) c (leb (e .level) 1) ∙ and-assoc a b (c && leb (e .level) 1))
 
 -- what it says that it does
 module _ (nets : ℕ) (e : Expectation) (y : suits nets e ≡ true) where

@@ -1,18 +1,24 @@
 -- Mark's ladder beside Run's: where 12 is answered yes, they ask alike, and leave the areas alike.
 -- Assumes nothing.
-use Prim.Native.Nat.{ℕ}
-use mathlib.Core.Path.{_≡_, sym, ap, _∙_}
-use mathlib.Core.Bool.{Bool, true, false, not}
+use Prim.Native.Nat.{ℕ, _+_, _≤_, _<_}
+use mathlib.Core.Path.{_≡_, sym, ap, ap₂, _∙_}
+use mathlib.Core.Bool.{Bool, true, false}
 use mathlib.Core.List.{List, _∷_}
 use native.Mathlib.Omega.{arith}
+use lib.Dec.{leb}
 use lib.ListN.{length}
-use borrow.Author.Tests.{not-true, not-false}
+use borrow.Author.Tests.{le-leb, lt-leb}
 use Rattle.lists.specs.Ladder.{_orElse_, firstNo, unless}
 use Rattle.lists.specs.Outcome.{outcome}
 use Rattle.lists.proofs.Ladders.{Numbered, numbered-append, numbered-more, first, first-here, first-none, first-most, firstNo-append, asked, ask-yes, ask-no, accepted-none, refused-some}
 use Rattle.lists.proofs.Leaving.{left-other}
 use Rattle.method.specs.Frames.{frames}
+use Rattle.method.specs.Values.{netCount}
 use Rattle.circuit.specs.File.{circuitOf}
+use Rattle.circuit.specs.declared.Reading.{Reading}
+use Rattle.circuit.specs.declared.Reading.the-variants as R
+use Rattle.circuit.specs.Questions as reader
+use Rattle.circuit.proofs.Parts.{circuit-inputs, gates-length}
 use Rattle.method.specs.declared.Totals.{Totals}
 use Rattle.planner.specs.declared.Planning.{Planning}
 use Rattle.planner.specs.declared.Planning.the-variants as Q
@@ -20,8 +26,9 @@ use Rattle.method.specs.Sums.{totalsOf}
 use Rattle.planner.specs.Plan.{onPaper}
 use Rattle.planner.specs.Questions.{lastQuestion}
 use Rattle.engine.specs.Areas.{Areas}
-use Rattle.engine.specs.Questions.{firstQuestions, questions}
+use Rattle.engine.specs.Questions.{firstQuestions, questionsOf, questions}
 use Rattle.engine.specs.Run.{runLeft, runOf}
+use Rattle.engine.proofs.Asking.{asked-no, asked-none, asked-inputs, asked-gates}
 use Rattle.engine.proofs.Answering.{first-numbered, joined, run-is}
 use Rattle.marking.specs.Questions.{askedWith}
 use Rattle.marking.specs.Steps as steps
@@ -74,17 +81,20 @@ module _ (file before after : List ℕ) (a : Areas) (suit : Bool) where
   unwritten : {n : ℕ} → firstNo (askedWith file a (length before) (length after) suit) ≡ n → (n ≡ 0 → ⊥) → (n ≡ 13 → ⊥) → steps.asked n a ≡ steps.askedOf file before after a suit
   unwritten {n} e h k = sym (answers e ∙ ap (steps.asked n) (left-other _ _ a n h k))
 
-  pub early-no : {r : ℕ} → r ≡ first-no → (r ≡ 0 → ⊥) → steps.asked r a ≡ steps.askedOf file before after a suit
-  early-no {r} e h =
-      let most = first-most 11 (firstQuestions file a (length before) (length after)) (first-numbered file a (length before) (length after)) in
-      unwritten (ladder-early file a (length before) (length after) suit (λ z. h (e ∙ z)) ∙ sym e) h (λ z. omega (arith, most, e))
+  -- what `questions` answered
+  module _ {r : Reading} (f : reader.onPaper r ≡ questionsOf file a (length before) (length after)) where
+    pub early-no : {n : ℕ} → r ≡ R.Refused n → steps.asked n a ≡ steps.askedOf file before after a suit
+    early-no {n} e =
+        let q = asked-no file a (length before) (length after) f e in
+        let most = first-most 11 (firstQuestions file a (length before) (length after)) (first-numbered file a (length before) (length after)) in
+        unwritten (ladder-early file a (length before) (length after) suit (λ z. q .1 (q .0 ∙ z)) ∙ sym (q .0)) (q .1) (λ z. omega (arith, most, q .0))
 
-  module _ {r : ℕ} (e : r ≡ first-no) (z : r ≡ 0) where
-    pub unsuited-no : not suit ≡ true → steps.asked 12 a ≡ steps.askedOf file before after a suit
-    unsuited-no n = unwritten (ladder-12 file a (length before) (length after) suit (sym e ∙ z) (not-true suit n)) (λ q. omega arith) (λ q. omega arith)
+    module _ {inputs gates : ℕ} (e : r ≡ R.Accepted inputs gates) where
+      pub unsuited-no : suit ≡ false → steps.asked 12 a ≡ steps.askedOf file before after a suit
+      unsuited-no n = unwritten (ladder-12 file a (length before) (length after) suit (asked-none file a (length before) (length after) f e) n) (λ q. omega arith) (λ q. omega arith)
 
   -- what Run answers and leaves
-  module _ (y : not suit ≡ false) (x : Planning) {b : Areas} (ran : outcome (onPaper x) b ≡ runOf file before after a) where
+  module _ (y : suit ≡ true) (x : Planning) {b : Areas} (ran : outcome (onPaper x) b ≡ runOf file before after a) where
     abbrev run-no : ℕ
     run-no = firstNo (questions file a (length before) (length after))
 
@@ -95,7 +105,7 @@ module _ (file before after : List ℕ) (a : Areas) (suit : Bool) where
     left-is = run-is file before after a ran .1
 
     ends : {n : ℕ} → run-no ≡ n → steps.asked n b ≡ steps.askedOf file before after a suit
-    ends {n} e = sym (answers (ladder-run file a (length before) (length after) suit (not-false suit y) ∙ e) ∙ ap (steps.asked n) (ap left (sym e) ∙ sym left-is))
+    ends {n} e = sym (answers (ladder-run file a (length before) (length after) suit y ∙ e) ∙ ap (steps.asked n) (ap left (sym e) ∙ sym left-is))
 
     pub run-refused : {n : ℕ} → x ≡ Q.Refused n → steps.asked n b ≡ steps.askedOf file before after a suit
     unfolding onPaper
@@ -104,3 +114,16 @@ module _ (file before after : List ℕ) (a : Areas) (suit : Bool) where
     pub run-accepted : {totals : Totals} → x ≡ Q.Planned totals → steps.asked 0 b ≡ steps.askedOf file before after a suit
     unfolding onPaper
     run-accepted q = ends (accepted-none run-no _ (sym answer-is ∙ ap onPaper q) .0)
+
+-- ---- question 12: whether there are as many nets as the list needs, by what `questions` answered
+
+module _ (file : List ℕ) (a : Areas) (before after : ℕ) {r : Reading} (f : reader.onPaper r ≡ questionsOf file a before after) {inputs gates : ℕ} (e : r ≡ R.Accepted inputs gates) where
+  nets-are : netCount (circuitOf file) ≡ inputs + gates
+  nets-are =
+      ap₂ _+_ (circuit-inputs file ∙ sym (asked-inputs file a before after f e)) (gates-length file ∙ sym (asked-gates file a before after f e))
+
+  pub too-few : {needed : ℕ} → inputs + gates < needed → leb needed (netCount (circuitOf file)) ≡ false
+  too-few {needed} h = rw nets-are (lt-leb needed (inputs + gates) h)
+
+  pub enough : {needed : ℕ} → needed ≤ inputs + gates → leb needed (netCount (circuitOf file)) ≡ true
+  enough {needed} h = rw nets-are (le-leb needed (inputs + gates) h)

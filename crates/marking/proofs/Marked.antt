@@ -1,11 +1,12 @@
 -- What Mark answers where a question fails, and where none does: then the areas hold the run, and the search in them gives
 -- the verdict. An accepted Mark leaves what an accepted Run leaves.
 -- Assumes nothing.
-use Prim.Native.Nat.{ℕ, zero, suc, _+_}
+use Prim.Native.Nat.{ℕ, zero, suc}
 use mathlib.Core.Path.{_≡_, refl, sym, ap, ap₂, _∙_}
 use mathlib.Core.Bool.{Bool, true}
 use mathlib.Core.List.{List}
 use native.Mathlib.Omega.{arith}
+use lib.Dec.{leb}
 use lib.ListN.{length}
 use Rattle.lists.specs.Ladder.{firstNo, accepted, unless}
 use Rattle.lists.specs.Outcome.{outcome}
@@ -13,7 +14,7 @@ use Rattle.lists.proofs.Ladders.{unless-none, unless-some}
 use Rattle.lists.proofs.Leaving.{left-none, accepted-left}
 use Rattle.circuit.specs.File.{circuitOf}
 use Rattle.circuit.specs.Questions.{readOf, sizeOf}
-use Rattle.circuit.proofs.Parts.{circuit-inputs, gates-length}
+use Rattle.circuit.proofs.Parts.{circuit-inputs, gates-length, few}
 use Rattle.engine.specs.Areas.{Areas, allCleared}
 use Rattle.method.specs.Values.{netCount}
 use Rattle.engine.specs.Questions.{firstQuestions}
@@ -28,28 +29,32 @@ use Rattle.marking.specs.declared.Marking.the-variants as M
 use Rattle.marking.specs.Questions.{listSuits, askedWith, questions}
 use Rattle.marking.specs.Verdict.{Verdict, verdict}
 use Rattle.marking.specs.Mark.{markOf, onPaper}
-use Rattle.marking.specs.Steps.{netsIn, netsOf, Asked, asked, askedOf, searched}
+use Rattle.marking.specs.Steps.{netsNeeded, Asked, asked, askedOf, searched}
+use Rattle.marking.proofs.Judging.{list-suits-by}
 use Rattle.marking.proofs.Laddered.{ladder-early, ladder-yes}
 use Rattle.marking.proofs.Searching.{searched-is}
 
--- ---- the number of nets
+-- ---- the nets that the list needs
 
--- where 1 to 11 are answered yes, the reader's answer gives it
-nets-counted : (file : List ℕ) (a : Areas) (before after : ℕ) → firstNo (firstQuestions file a before after) ≡ 0 → netsOf file ≡ netCount (circuitOf file)
-unfolding readOf sizeOf netsIn
-nets-counted file a before after e =
-    ap netsIn (unless-none _ (sizeOf file) (passed file a before after e .reads)) ∙ ap₂ _+_ (sym (circuit-inputs file)) (sym (gates-length file))
+-- where 1 to 11 are answered yes, question 12 is whether there are as many
+needs-asked : (file : List ℕ) (a : Areas) (before after : ℕ) → firstNo (firstQuestions file a before after) ≡ 0 → (list : List Expectation)
+    → listSuits (netCount (circuitOf file)) list ≡ leb (netsNeeded list) (netCount (circuitOf file))
+unfolding readOf sizeOf
+needs-asked file a before after e list =
+    let read = unless-none _ (sizeOf file) (passed file a before after e .reads) in
+    let most = few file read in
+    list-suits-by (netCount (circuitOf file)) (omega (arith, circuit-inputs file, gates-length file, most)) list
 
 -- and where one of them is not, it does not matter
 same-ladder : (file : List ℕ) (a : Areas) (before after : ℕ) (list : List Expectation)
-    → firstNo (askedWith file a before after (listSuits (netsOf file) list)) ≡ firstNo (questions file a before after list)
+    → firstNo (askedWith file a before after (leb (netsNeeded list) (netCount (circuitOf file)))) ≡ firstNo (questions file a before after list)
 same-ladder file a before after list = go (firstNo (firstQuestions file a before after)) refl
   where
-    go : (n : ℕ) → firstNo (firstQuestions file a before after) ≡ n → firstNo (askedWith file a before after (listSuits (netsOf file) list)) ≡ firstNo (questions file a before after list)
-    go zero e = ap (λ (m : ℕ). firstNo (askedWith file a before after (listSuits m list))) (nets-counted file a before after e)
+    go : (n : ℕ) → firstNo (firstQuestions file a before after) ≡ n → firstNo (askedWith file a before after (leb (netsNeeded list) (netCount (circuitOf file)))) ≡ firstNo (questions file a before after list)
+    go zero e = ap (λ (b : Bool). firstNo (askedWith file a before after b)) (sym (needs-asked file a before after e list))
     go (suc n) e =
         let some : firstNo (firstQuestions file a before after) ≡ 0 → ⊥ = λ z. omega (arith, e) in
-        ladder-early file a before after (listSuits (netsOf file) list) some ∙ sym (ladder-early file a before after (listSuits (netCount (circuitOf file)) list) some)
+        ladder-early file a before after (leb (netsNeeded list) (netCount (circuitOf file))) some ∙ sym (ladder-early file a before after (listSuits (netCount (circuitOf file)) list) some)
 
 -- ---- no question fails
 
@@ -81,15 +86,14 @@ module _ (file before after : List ℕ) (a : Areas) (list : List Expectation) wh
 
 -- ---- what `mark` answers
 
-module _ (file before after : List ℕ) (a : Areas) {b : Areas} (list : List Expectation) {n r : ℕ} {suit : Bool}
-    (nets : n ≡ netsOf file) (all : suit ≡ listSuits n list) (ran : asked r b ≡ askedOf file before after a suit) where
-  suit-is : suit ≡ listSuits (netsOf file) list
-  suit-is = all ∙ ap (λ (m : ℕ). listSuits m list) nets
-
+module _ (file before after : List ℕ) (a : Areas) {b : Areas} (list : List Expectation) {needed r : ℕ}
+    (all : needed ≡ netsNeeded list) (ran : asked r b ≡ askedOf file before after a (leb needed (netCount (circuitOf file)))) where
   number-is : firstNo (questions file a (length before) (length after) list) ≡ r
   unfolding askedOf
   number-is =
-      sym (ap (λ (x : Asked). x .number) ran ∙ ap (λ (s : Bool). firstNo (askedWith file a (length before) (length after) s)) suit-is ∙ same-ladder file a (length before) (length after) list)
+      sym (ap (λ (x : Asked). x .number) ran
+      ∙ ap (λ (m : ℕ). firstNo (askedWith file a (length before) (length after) (leb m (netCount (circuitOf file))))) all
+      ∙ same-ladder file a (length before) (length after) list)
 
   left-is : b ≡ runLeft r (circuitOf file) before after a
   unfolding askedOf

@@ -1,9 +1,10 @@
 -- What a turn of each loop over the list of expectations knows: where it stands at the end, where it goes on, where it stops.
 -- Assumes nothing.
-use Prim.Native.Nat.{ℕ, suc, _+_, _-_, _≤_, _<_}
+use Prim.Native.Nat.{ℕ, suc, _+_, _-_, _≤_, _<_, max}
 use mathlib.Core.Path.{_≡_, refl, sym, ap, subst, _∙_}
-use mathlib.Core.Bool.{Bool, true, false, not, cond, _&&_}
-use mathlib.Core.List.{List}
+use mathlib.Core.Bool.{Bool, true, false, not, cond}
+use mathlib.Core.List.{List, _∷_}
+use native.Mathlib.Nat.{zero-max, max-zero}
 use native.Mathlib.Numerals.{add-one}
 use native.Mathlib.Omega.{arith}
 use lib.Dec.{T, eqb, T-not, eqb-refl}
@@ -14,10 +15,9 @@ use Rattle.method.specs.Layout.{frameCount}
 use Rattle.method.specs.declared.Frame.{Frame}
 use Rattle.marking.specs.declared.Expectation.{Expectation}
 use Rattle.marking.specs.declared.Marking.the-variants as M
-use Rattle.marking.specs.Questions.{suits, listSuits}
 use Rattle.marking.specs.Verdict.{Verdict, allMet, place}
 use Rattle.marking.specs.Mark.{onPaper}
-use Rattle.marking.specs.Steps.{breaksAt, searchedFrames, searchedFrom}
+use Rattle.marking.specs.Steps.{netsFor, netsNeeded, breaksAt, searchedFrames, searchedFrom}
 
 -- what a read past the end of a list of expectations gives. No read goes there
 abbrev pub nought : Expectation
@@ -33,14 +33,6 @@ before-end i n h t = omega (arith, h, apart i n t)
 
 -- ---- an answer that is known
 
-no-and : (r : Bool) → T (not r) → (s : Bool) → r && s ≡ false
-no-and true n s = absurd n
-no-and false n s = refl
-
-yes-and : (r : Bool) → T (not (not r)) → (s : Bool) → r && s ≡ s
-yes-and true n s = refl
-yes-and false n s = absurd n
-
 cond-yes : (r : Bool) → T r → {A : Type 0} (a b : A) → cond r a b ≡ a
 cond-yes true y a b = refl
 cond-yes false y a b = absurd y
@@ -49,27 +41,25 @@ cond-no : (r : Bool) → T (not r) → {A : Type 0} (a b : A) → cond r a b ≡
 cond-no true n a b = absurd n
 cond-no false n a b = refl
 
--- ---- question 12 of the list, from position i on
+-- ---- the nets that the list needs: those of the expectations before position i, and of the rest
 
-module _ (nets : ℕ) (list : List Expectation) where
-  abbrev pub suitFrom : ℕ → Bool
-  suitFrom i = listSuits nets (drop i list)
+module _ (list : List Expectation) where
+  abbrev pub neededFrom : ℕ → ℕ → ℕ
+  neededFrom nets i = max nets (netsNeeded (drop i list))
 
-  pub suit-end : (i : ℕ) → i ≡ length list → suitFrom i ≡ true
-  unfolding listSuits
-  suit-end i e = ap suitFrom e ∙ ap (listSuits nets) (drop-length list)
+  pub needed-start : neededFrom 0 0 ≡ netsNeeded list
+  needed-start = zero-max (netsNeeded list)
 
-  -- where r is the answer for the expectation at i: "no" is the list's answer too; "yes" leaves it to what follows
-  module _ (i : ℕ) (l : i < length list) (r : Bool) (e : r ≡ suits nets (getD list i nought)) where
-    by-answer : suitFrom i ≡ r && suitFrom (i + 1)
-    unfolding listSuits
-    by-answer = ap (listSuits nets) (drop-cons list i nought l) ∙ ap (λ (s : Bool). s && suitFrom (suc i)) (sym e) ∙ ap (λ (j : ℕ). r && suitFrom j) (sym (add-one i))
+  pub needed-end : (nets i : ℕ) → i ≡ length list → neededFrom nets i ≡ nets
+  unfolding netsNeeded
+  needed-end nets i e = ap (neededFrom nets) e ∙ ap (λ (rest : List Expectation). max nets (netsNeeded rest)) (drop-length list) ∙ max-zero nets
 
-    pub suit-no : T (not r) → suitFrom i ≡ false
-    suit-no n = by-answer ∙ no-and r n (suitFrom (i + 1))
-
-    pub suit-yes : T (not (not r)) → suitFrom (i + 1) ≡ suitFrom i
-    suit-yes n = sym (by-answer ∙ yes-and r n (suitFrom (i + 1)))
+  pub needed-on : (nets i : ℕ) → i < length list → {m : ℕ} → m ≡ max nets (netsFor (getD list i nought)) → neededFrom m (i + 1) ≡ neededFrom nets i
+  unfolding netsNeeded
+  needed-on nets i l e =
+      ap (λ (n : ℕ). neededFrom n (i + 1)) e
+      ∙ (let q : max (max nets (netsFor (getD list i nought))) (netsNeeded (drop (i + 1) list)) ≡ max nets (max (netsFor (getD list i nought)) (netsNeeded (drop (i + 1) list))) = omega arith in q)
+      ∙ sym (ap (λ (rest : List Expectation). max nets (netsNeeded rest)) (drop-cons list i nought l ∙ ap (λ (j : ℕ). getD list i nought ∷ drop j list) (sym (add-one i))))
 
 -- ---- the search, from position i on
 

@@ -1,13 +1,12 @@
 -- What Mark's own functions promise each other. A reader of Mark's promise may skip this file.
-use Prim.Native.Nat.{ℕ, zero, suc, _+_}
+use Prim.Native.Nat.{ℕ, zero, suc, _+_, max}
 use mathlib.Core.Bool.{Bool, not, cond, _&&_, _||_, Bool·beq}
 use mathlib.Core.List.{List, [], _∷_}
 use lib.ListN.{length, getD}
 use lib.Dec.{ltb, leb}
-use Rattle.lists.specs.Ladder.{Answer, accepted, refused, firstNo}
-use Rattle.method.specs.Words.{lane}
+use Rattle.lists.specs.Ladder.{firstNo}
+use Rattle.method.specs.Words.{lanes, lane}
 use Rattle.circuit.specs.File.{circuitOf}
-use Rattle.circuit.specs.Questions.{Size, readOf}
 use Rattle.method.specs.Layout.{firstFrame, frameCount}
 use Rattle.engine.specs.Areas.{Areas}
 use Rattle.engine.specs.Run.{runLeft}
@@ -17,13 +16,17 @@ use Rattle.marking.specs.Verdict.{Verdict, allMet, place, expected}
 
 -- ---- the questions, and the run
 
--- how many nets a reader's answer means
-unfoldable pub netsIn : Answer Size → ℕ
-netsIn (accepted s) = s .inputs + s .gates
-netsIn (refused n) = 0
+-- more nets than any circuit has
+abbrev pub noCircuit : ℕ
+noCircuit = 131072
 
-abbrev pub netsOf : List ℕ → ℕ
-netsOf file = netsIn (readOf file)
+-- how many nets a circuit must have, so that an expectation passes question 12 there; and so that all of a list do
+unfoldable pub netsFor : Expectation → ℕ
+netsFor e = cond (ltb (e .lane) lanes && (leb (e .from .0) (e .to .0) && leb (e .level) 1)) (e .net .0 + 1) noCircuit
+
+unfoldable pub netsNeeded : List Expectation → ℕ
+netsNeeded [] = 0
+netsNeeded (e ∷ list) = max (netsFor e) (netsNeeded list)
 
 -- the number of the first "no", or 0, with what stands in the areas then
 pub record Asked : Type 0 where

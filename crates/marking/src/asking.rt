@@ -1,47 +1,59 @@
 // What Mark asks, and the run that follows.
 ghost use mathlib.Core.Path.{_≡_};
 ghost use Rattle.engine.specs.Areas.{areas};
-ghost use Rattle.marking.specs.Questions.{suits as suitsOf, listSuits};
-ghost use Rattle.marking.specs.Steps.{netsOf, asked, askedOf};
+ghost use Prim.Native.Nat.{max};
+ghost use lib.Dec.{leb};
+ghost use Rattle.method.specs.Values.{netCount};
+ghost use Rattle.circuit.specs.File.{circuitOf};
+ghost use Rattle.marking.specs.Steps.{netsFor, netsNeeded, asked, askedOf};
 use crate::Expectation;
 use circuit::Reading;
 use planner::Planning;
 
-// How many nets the circuit of the file has; 0 where the reader refuses it.
-pub(crate) fn net_count(file: &[u8]) -> u16
-    ensures { λ r. ⌜ r ≡ netsOf (now (file .entry)) ⌝ }
+// More nets than any circuit has.
+const NO_CIRCUIT: u32 = 131072;
+
+// How many nets a circuit must have so that the expectation passes question 12 there.
+fn nets_for(e: Expectation) -> u32
+    ensures { λ r. ⌜ r ≡ netsFor e ⌝ }
 {
-    match circuit::read(file) {
-        Reading::Refused(_) => 0,
-        Reading::Accepted { inputs, gates } => inputs + gates,
+    if 64 <= e.lane {
+        return NO_CIRCUIT;
     }
+    if e.to.0 < e.from.0 {
+        return NO_CIRCUIT;
+    }
+    if 1 < e.level {
+        return NO_CIRCUIT;
+    }
+    e.net.0 as u32 + 1
 }
 
-// Question 12 of one expectation.
-pub(crate) fn suits(e: Expectation, nets: u16) -> bool
-    ensures { λ r. ⌜ r ≡ suitsOf nets e ⌝ }
+// These nets, or as many as the expectation needs where that is more.
+pub(crate) fn at_least(e: Expectation, nets: u32) -> u32
+    ensures { λ r. ⌜ r ≡ max nets (netsFor e) ⌝ }
 {
-    e.net.0 < nets && e.lane < 64 && e.from.0 <= e.to.0 && e.level < 2
+    let needed = nets_for(e);
+    if nets < needed { needed } else { nets }
 }
 
-// Question 12: no expectation is looked at behind the first that does not suit. Proved by hand, as the list is lent.
-pub(crate) fn all_suit<'a>(list: &'a [Expectation], nets: u16) -> bool
-    ensures { λ r. ⌜ r ≡ listSuits nets (now (list .entry)) ⌝ }
+// How many nets a circuit must have so that the list passes question 12 there. Proved by hand, as the list is lent.
+pub(crate) fn nets_needed<'a>(list: &'a [Expectation]) -> u32
+    ensures { λ r. ⌜ r ≡ netsNeeded (now (list .entry)) ⌝ }
 {
+    let mut nets: u32 = 0;
     let mut i: usize = 0;
     loop {
         if i == list.len() {
-            break true;
+            break nets;
         }
-        if !suits(list[i], nets) {
-            break false;
-        }
+        nets = at_least(list[i], nets);
         i = i + 1;
     }
 }
 
-// Questions 1 to 11, then 12, which `suit` answers, then Run with 13: the number of the first "no", or 0. The areas that the
-// search reads afterwards are lent for the call alone, 'w.
+// Questions 1 to 11, then 12, whether there are as many nets as the list needs, then Run with 13: the number of the first
+// "no", or 0. The areas that the search reads afterwards are lent for the call alone, 'w.
 pub(crate) fn run_asked<'w, 'a>(
     file: &'a [u8],
     directory: &'w mut [u16],
@@ -51,11 +63,11 @@ pub(crate) fn run_asked<'w, 'a>(
     values: &'w mut [u64],
     before: &'a [u64],
     after: &'a [u64],
-    suit: bool,
+    needed: u32,
 ) -> u8
-    ensures { λ r. ⌜ asked r (areas (now (directory .exit)) (now (times .exit)) (now (inertial .exit)) (now (fanins .exit)) (now (values .exit))) ≡ askedOf (now (file .entry)) (now (before .entry)) (now (after .entry)) (areas (now (directory .entry)) (now (times .entry)) (now (inertial .entry)) (now (fanins .entry)) (now (values .entry))) suit ⌝ }
+    ensures { λ r. ⌜ asked r (areas (now (directory .exit)) (now (times .exit)) (now (inertial .exit)) (now (fanins .exit)) (now (values .exit))) ≡ askedOf (now (file .entry)) (now (before .entry)) (now (after .entry)) (areas (now (directory .entry)) (now (times .entry)) (now (inertial .entry)) (now (fanins .entry)) (now (values .entry))) (leb needed (netCount (circuitOf (now (file .entry))))) ⌝ }
 {
-    let fault = engine::questions(
+    let nets = match engine::questions(
         file,
         directory,
         times,
@@ -64,11 +76,13 @@ pub(crate) fn run_asked<'w, 'a>(
         values,
         before,
         after,
-    );
-    if fault != 0 {
-        return fault;
-    }
-    if !suit {
+    ) {
+        Reading::Refused(n) => {
+            return n;
+        }
+        Reading::Accepted { inputs, gates } => inputs as u32 + gates as u32,
+    };
+    if nets < needed {
         return 12;
     }
     match engine::run(

@@ -7,8 +7,7 @@ ghost use Rattle.marking.specs.Mark.{markOf, onPaper};
 mod asking;
 mod search;
 
-use asking::all_suit;
-use asking::net_count;
+use asking::nets_needed;
 use asking::run_asked;
 use method::Frame;
 use method::Net;
@@ -47,8 +46,8 @@ pub fn mark<'a>(
 ) -> Marking
     ensures { λ r. ⌜ outcome (onPaper r) (areas (now (directory .exit)) (now (times .exit)) (now (inertial .exit)) (now (fanins .exit)) (now (values .exit))) ≡ markOf (now (file .entry)) (now (before .entry)) (now (after .entry)) (areas (now (directory .entry)) (now (times .entry)) (now (inertial .entry)) (now (fanins .entry)) (now (values .entry))) (now (expectations .entry)) ⌝ }
 {
-    // 12 writes nothing, so its answer may be had before that of 1 to 11; it is given behind them
-    let suit = all_suit(expectations, net_count(file));
+    // the list is walked first: so the areas are lent to be written once, for all questions and the run
+    let needed = nets_needed(expectations);
     let fault = run_asked(
         file,
         directory,
@@ -58,7 +57,7 @@ pub fn mark<'a>(
         values,
         before,
         after,
-        suit,
+        needed,
     );
     if fault != 0 {
         return Marking::Refused(fault);

@@ -1,6 +1,6 @@
 -- `questions` meets its contract: the reader asks 1 to 9, and `own_fault` the two that follow.
 -- Assumes nothing.
-use Rattle.engine.proofs.Asking.{read-no, own-no}
+use Rattle.engine.proofs.Asking.{read-no, own-no, own-none}
 use borrow.Author.Needs.{needs}
 use Rattle.engine.proofs.questions.Statement.{statement}
 use Rattle.engine.proofs.questions.Tie as tie
@@ -18,12 +18,22 @@ own-fault-requires : tie.Need-own-fault-requires
 own-fault-requires c κs = search needs
 
 returns : tie.Need-returns
-returns c = read-no _ _ _ _ (c .before .before .before .read .ensures) (c .before .n .given .1) .0
+returns c = own-no _ _ _ _ (c .before .before .before .before .before .read .ensures) (c .before .before .before .inputs .given .1) (c .before .own-fault .ensures) (c .if1 .taken)
 
 returns-2 : tie.Need-returns-2
-returns-2 c = own-no _ _ _ _ (c .before .before .before .before .read .ensures) (c .before .before .inputs .given .1) (c .own-fault .ensures)
+returns-2 c = read-no _ _ _ _ (c .before .before .before .read .ensures) (c .before .n .given .1)
+
+returns-3 : tie.Need-returns-3
+returns-3 c = own-none _ _ _ _ (c .before .before .before .before .before .read .ensures) (c .before .before .before .inputs .given .1) (c .before .own-fault .ensures) (search needs)
 
 pub questions-spec : {M : Type 1} → statement M
 questions-spec =
     tie.close
-    (tie.spec read-requires enum-known-n enum-known-inputs own-fault-requires returns returns-2)
+    (tie.spec
+    read-requires
+    enum-known-n
+    enum-known-inputs
+    own-fault-requires
+    returns
+    returns-2
+    returns-3)

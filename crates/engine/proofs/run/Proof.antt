@@ -1,13 +1,13 @@
 -- `run` meets its contract: a "no" up to 11 writes nothing, and `simulate` does the rest.
 -- Assumes nothing.
-use Rattle.engine.proofs.Asking.{read-no, own-no, all-asked-yes}
+use Rattle.engine.proofs.Asking.{asked-no, asked-yes}
 use Rattle.engine.proofs.Answering.{run-no}
 use borrow.Author.Needs.{needs}
 use Rattle.engine.proofs.run.Statement.{statement}
 use Rattle.engine.proofs.run.Tie as tie
 
-read-requires : tie.Need-read-requires
-read-requires c κs = search needs
+questions-requires : tie.Need-questions-requires
+questions-requires c κs = search needs
 
 enum-known-n : tie.Need-enum-known-n
 enum-known-n c = search needs
@@ -15,8 +15,8 @@ enum-known-n c = search needs
 enum-known-inputs : tie.Need-enum-known-inputs
 enum-known-inputs c = search needs
 
-own-fault-requires : tie.Need-own-fault-requires
-own-fault-requires c κs = search needs
+simulate-requires : tie.Need-simulate-requires
+simulate-requires c κs = asked-yes _ _ _ _ (c .before .before .before .before .before .before .before .before .questions .ensures) (c .before .before .before .before .before .before .inputs .given .1)
 
 same-length : tie.Need-same-length
 same-length c = search needs
@@ -34,13 +34,7 @@ same-length-5 : tie.Need-same-length-5
 same-length-5 c = search needs
 
 returns : tie.Need-returns
-returns c = run-no _ _ _ _ (own-no _ _ _ _ (c .before .before .before .before .before .before .before .before .before .before .read .ensures) (c .before .before .before .before .before .before .before .before .inputs .given .1) (c .before .own-fault .ensures)) (c .if1 .taken)
-
-simulate-requires : tie.Need-simulate-requires
-simulate-requires c κs = all-asked-yes _ _ _ _ (c .before .before .before .before .before .before .before .before .before .before .before .before .before .before .before .read .ensures) (c .before .before .before .before .before .before .before .before .before .before .before .before .before .inputs .given .1) (c .before .before .before .before .before .before .own-fault .ensures) (search needs)
-
-returns-2 : tie.Need-returns-2
-returns-2 c = let q = read-no _ _ _ _ (c .before .before .before .read .ensures) (c .before .n .given .1) in run-no _ _ _ _ (q .0) (q .1)
+returns c = let q = asked-no _ _ _ _ (c .before .before .before .questions .ensures) (c .before .n .given .1) in run-no _ _ _ _ (q .0) (q .1)
 
 same-length-6 : tie.Need-same-length-6
 same-length-6 c = search needs
@@ -57,28 +51,26 @@ same-length-9 c = search needs
 same-length-10 : tie.Need-same-length-10
 same-length-10 c = search needs
 
-returns-3 : tie.Need-returns-3
-returns-3 c = search needs
+returns-2 : tie.Need-returns-2
+returns-2 c = search needs
 
 pub run-spec : {M : Type 1} → statement M
 run-spec =
     tie.close
     (tie.spec
-    read-requires
+    questions-requires
     enum-known-n
     enum-known-inputs
-    own-fault-requires
+    simulate-requires
     same-length
     same-length-2
     same-length-3
     same-length-4
     same-length-5
     returns
-    simulate-requires
-    returns-2
     same-length-6
     same-length-7
     same-length-8
     same-length-9
     same-length-10
-    returns-3)
+    returns-2)

@@ -1,12 +1,15 @@
--- `marking::asking::run_asked` meets its contract. Each question that fails gives its number, and Run does the rest.
+-- `run_asked` meets its contract: each question that fails gives its number, and Run does the rest.
 -- Assumes nothing.
-use Rattle.marking.proofs.Laddered.{early-no, unsuited-no, run-refused, run-accepted}
+use Rattle.marking.proofs.Laddered.{early-no, unsuited-no, too-few, enough, run-refused, run-accepted}
 use borrow.Author.Needs.{needs}
 use Rattle.marking.proofs.asking.run_asked.Statement.{statement}
 use Rattle.marking.proofs.asking.run_asked.Tie as tie
 
 questions-requires : tie.Need-questions-requires
 questions-requires c κs = search needs
+
+enum-known-n : tie.Need-enum-known-n
+enum-known-n c = search needs
 
 same-length : tie.Need-same-length
 same-length c = search needs
@@ -24,7 +27,19 @@ same-length-5 : tie.Need-same-length-5
 same-length-5 c = search needs
 
 returns : tie.Need-returns
-returns c = early-no _ _ _ _ _ (c .before .questions .ensures) (c .if1 .taken)
+returns c = early-no _ _ _ _ _ (c .before .before .before .questions .ensures) (c .before .n .given .1)
+
+enum-known-inputs : tie.Need-enum-known-inputs
+enum-known-inputs c = search needs
+
+cast-nets : tie.Need-cast-nets
+cast-nets c = search needs
+
+cast-nets-2 : tie.Need-cast-nets-2
+cast-nets-2 c = search needs
+
+add-nets : tie.Need-add-nets
+add-nets c = search needs
 
 same-length-6 : tie.Need-same-length-6
 same-length-6 c = search needs
@@ -42,13 +57,16 @@ same-length-10 : tie.Need-same-length-10
 same-length-10 c = search needs
 
 returns-2 : tie.Need-returns-2
-returns-2 c = unsuited-no _ _ _ _ _ (c .before .before .questions .ensures) (search needs) (c .if2 .taken)
+returns-2 c =
+    let f = c .before .before .before .before .questions .ensures in
+    let e = c .before .before .inputs .given .1 in
+    unsuited-no _ _ _ _ _ f e (too-few _ _ _ _ f e (c .if1 .taken))
 
 run-requires : tie.Need-run-requires
 run-requires c κs = search needs
 
-enum-known-n : tie.Need-enum-known-n
-enum-known-n c = search needs
+enum-known-n-2 : tie.Need-enum-known-n-2
+enum-known-n-2 c = search needs
 
 enum-told : tie.Need-enum-told
 enum-told c = search needs
@@ -69,7 +87,7 @@ same-length-15 : tie.Need-same-length-15
 same-length-15 c = search needs
 
 returns-3 : tie.Need-returns-3
-returns-3 c = run-refused _ _ _ _ _ (c .before .before .before .before .before .before .before .before .before .before .before .before .before .before .before .before .before .before .before .if2 .left) _ (c .before .before .before .before .before .before .before .before .before .before .before .before .before .run .ensures) (c .before .n .given .1)
+returns-3 c = run-refused _ _ _ _ _ (enough _ _ _ _ (c .before .before .before .before .before .before .before .before .before .before .before .before .before .before .before .before .before .before .before .before .before .before .before .questions .ensures) (c .before .before .before .before .before .before .before .before .before .before .before .before .before .before .before .before .before .before .before .before .before .inputs .given .1) (c .before .before .before .before .before .before .before .before .before .before .before .before .before .before .before .before .before .before .before .if1 .left)) _ (c .before .before .before .before .before .before .before .before .before .before .before .before .before .run .ensures) (c .before .n2 .given .1)
 
 same-length-16 : tie.Need-same-length-16
 same-length-16 c = search needs
@@ -87,19 +105,24 @@ same-length-20 : tie.Need-same-length-20
 same-length-20 c = search needs
 
 returns-4 : tie.Need-returns-4
-returns-4 c = run-accepted _ _ _ _ _ (c .before .before .before .before .before .before .before .before .before .before .before .before .before .before .before .before .before .before .if2 .left) _ (c .before .before .before .before .before .before .before .before .before .before .before .before .run .ensures) (c .enum-told .given .1)
+returns-4 c = run-accepted _ _ _ _ _ (enough _ _ _ _ (c .before .before .before .before .before .before .before .before .before .before .before .before .before .before .before .before .before .before .before .before .before .before .questions .ensures) (c .before .before .before .before .before .before .before .before .before .before .before .before .before .before .before .before .before .before .before .before .inputs .given .1) (c .before .before .before .before .before .before .before .before .before .before .before .before .before .before .before .before .before .before .if1 .left)) _ (c .before .before .before .before .before .before .before .before .before .before .before .before .run .ensures) (c .enum-told .given .1)
 
 pub run-asked-spec : {M : Type 1} → statement M
 run-asked-spec =
     tie.close
     (tie.spec
     questions-requires
+    enum-known-n
     same-length
     same-length-2
     same-length-3
     same-length-4
     same-length-5
     returns
+    enum-known-inputs
+    cast-nets
+    cast-nets-2
+    add-nets
     same-length-6
     same-length-7
     same-length-8
@@ -107,7 +130,7 @@ run-asked-spec =
     same-length-10
     returns-2
     run-requires
-    enum-known-n
+    enum-known-n-2
     enum-told
     same-length-11
     same-length-12
