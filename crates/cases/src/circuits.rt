@@ -111,9 +111,9 @@ fn show_line<'a>(
 
 fn ask_of(head: [u8; 24]) -> Ask {
     Ask {
-        rubbish: circuit::number_at(&head, 14),
-        net: Net(circuit::number_at(&head, 18)),
-        time: Time(circuit::number_at(&head, 21)),
+        rubbish: numbers::number_at(&head, 14),
+        net: Net(numbers::number_at(&head, 18)),
+        time: Time(numbers::number_at(&head, 21)),
         count: expected(head),
     }
 }

@@ -12,7 +12,7 @@ pub(crate) fn read_all(bytes: &mut [u8]) -> bool {
 pub(crate) fn length_at(bytes: &[u8], at: usize) -> usize
     ensures { λ r. ⌜ r < 65536 ⌝ }
 {
-    circuit::number_at(bytes, at) as usize
+    numbers::number_at(bytes, at) as usize
 }
 
 pub(crate) fn wide(byte: u8) -> usize
@@ -35,7 +35,7 @@ pub(crate) fn words_of(bytes: &[u8], at: usize) -> [u64; 80]
     let mut words = [0u64; 80];
     let mut k = 0;
     while k < 80 {
-        words[k] = waveform::word_at_byte(bytes, at + 8 * k);
+        words[k] = numbers::word_at_byte(bytes, at + 8 * k);
         k += 1;
     }
     words
@@ -46,7 +46,7 @@ pub(crate) fn numbers_of(bytes: &[u8]) -> [u16; 80] {
     let mut numbers = [0u16; 80];
     let mut k = 0;
     while k < 80 {
-        numbers[k] = circuit::number_at(bytes, 2 * k);
+        numbers[k] = numbers::number_at(bytes, 2 * k);
         k += 1;
     }
     numbers

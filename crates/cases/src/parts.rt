@@ -38,7 +38,7 @@ fn with_parts(head: [u8; 5], body: &mut [u8]) -> bool {
         &times[0..frames],
         &values[0..words],
         head[2],
-        Time(circuit::number_at(&head, 3)),
+        Time(numbers::number_at(&head, 3)),
     );
     true
 }

@@ -17,13 +17,13 @@ ghost use Prim.Native.Nat.{_≤_};
 mod nets;
 
 use circuit::Reading;
-use circuit::number_at;
 use libc::STDIN_FILENO;
 use libc::STDOUT_FILENO;
 use nets::show_nets;
 use nets::wide;
+use numbers::number_at;
+use numbers::word_at_byte;
 use planner::Planning;
-use waveform::word_at_byte;
 
 // No input has as many vectors as there are turns: each takes two bytes or more.
 fn main() {

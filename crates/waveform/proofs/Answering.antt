@@ -39,7 +39,7 @@ use Rattle.engine.proofs.After.{after-runs}
 use Rattle.engine.proofs.Answering.{run-is}
 use Rattle.evaluation.proofs.Parts.{all-words}
 use Rattle.waveform.specs.Input.{wordsFrom, beforeWords, afterWords, questions}
-use Rattle.waveform.specs.Text.{refusal}
+use Rattle.text.specs.Text.{refusal}
 use Rattle.waveform.specs.Lines.{lines}
 use Rattle.waveform.specs.Wave.{answerText, bufferLength}
 use Rattle.waveform.specs.Steps.{listLength, areaLines, runText}

@@ -9,14 +9,14 @@ use Rattle.method.specs.Times.{gateTimes}
 use Rattle.method.specs.Frames.{framesWith, gateFrames, frames}
 use Rattle.method.specs.Traces.{rawValue, gateTrace, traces}
 use Rattle.method.specs.Words.{lane}
-use Rattle.circuit.specs.File.{numberAt, faninsOf, kindOf, gateOf, circuitOf}
+use Rattle.numbers.specs.Numbers.{numberAt, wordAt}
+use Rattle.circuit.specs.File.{faninsOf, kindOf, gateOf, circuitOf}
 use Rattle.circuit.specs.Limits.{delaysSuit}
 use Rattle.circuit.specs.Questions as reader
 use Rattle.method.specs.Sums.{fits}
-use Rattle.waveform.specs.Words.{wordAt}
 use Rattle.waveform.specs.Input.{whole, filePart, wordPart, wordsFrom, questions}
-use Rattle.waveform.specs.Text.{digitAt, decimal}
-use Rattle.waveform.specs.Lines.{frameText, line, lines}
+use Rattle.text.specs.Text.{digitAt, decimal, frameText}
+use Rattle.waveform.specs.Lines.{line, lines}
 use Rattle.waveform.specs.Wave.{answerText, textOf}
 use Rattle.waveform.specs.Example.{exampleInput, exampleText, Shown}
 

@@ -16,8 +16,8 @@ use Rattle.method.specs.Packed.{laneOf, packedValues}
 use Rattle.method.specs.Traces.{traceAt}
 use Rattle.method.specs.Values.{netCount, allValues}
 use Rattle.evaluation.proofs.Parts.{word-each}
-use Rattle.waveform.specs.Text.{glyph, digitAt, decimal, newline, equals, refusal}
-use Rattle.waveform.specs.Lines.{frameText, line, netLine, lines}
+use Rattle.text.specs.Text.{glyph, digitAt, decimal, newline, equals, refusal, frameText}
+use Rattle.waveform.specs.Lines.{line, netLine, lines}
 
 both : (xs ys : List ℕ) {m n : ℕ} → length xs ≤ m → length ys ≤ n → length (xs ++ ys) ≤ m + n
 both xs ys h l = omega (arith, length-append xs ys, h, l)

@@ -24,10 +24,11 @@ use Rattle.method.proofs.Laying.{part-entry}
 use Rattle.engine.specs.Areas.{Areas}
 use Rattle.method.specs.Values.{netCount}
 use Rattle.engine.specs.After.{After}
-use Rattle.waveform.specs.Text.{newline, decimal}
-use Rattle.waveform.specs.Lines.{frameText, line, netLine, lines}
-use Rattle.waveform.specs.Steps.{Wrote, areaFrame, areaFrames, areaLine, areaLines}
-use Rattle.waveform.proofs.Putting.{wrote-nothing, wrote-both, wrote-next}
+use Rattle.text.specs.Text.{newline, decimal, frameText}
+use Rattle.waveform.specs.Lines.{line, netLine, lines}
+use Rattle.text.specs.Wrote.{Wrote}
+use Rattle.waveform.specs.Steps.{areaFrame, areaFrames, areaLine, areaLines}
+use Rattle.text.proofs.Putting.{wrote-nothing, wrote-both, wrote-next}
 
 -- ---- written
 

@@ -11,15 +11,15 @@ use lib.Dec.{eqb}
 use borrow.Author.Tests.{eq-eqb, ne-eqb, not-true, not-false}
 use Rattle.lists.specs.Areas.{cleared, padded}
 use Rattle.lists.proofs.Padding.{pad-least}
-use Rattle.circuit.specs.File.{numberAt}
+use Rattle.numbers.specs.Numbers.{numberAt}
 use Rattle.waveform.specs.declared.Printing.{Printing}
 use Rattle.waveform.specs.declared.Printing.the-variants as P
 use Rattle.waveform.specs.Input.{whole, filePart, wordPart}
-use Rattle.waveform.specs.Text.{refusal}
+use Rattle.text.specs.Text.{refusal}
 use Rattle.waveform.specs.Wave.{bufferLength, answerText, textOf, PrintAnswer, printed, otherLength, Page, page, waveOf, onPaper}
-use Rattle.waveform.specs.Steps.{Wrote}
-use Rattle.waveform.proofs.Putting.{wrote-padded, wrote-length}
-use Rattle.waveform.proofs.Taking.{rest-is}
+use Rattle.text.specs.Wrote.{Wrote}
+use Rattle.text.proofs.Putting.{wrote-padded, wrote-length}
+use Rattle.numbers.proofs.Bytes.{rest-is}
 use Rattle.waveform.proofs.Lengths.{refusal-length}
 use Rattle.waveform.proofs.Answering.{answer-fits}
 

@@ -7,16 +7,13 @@ use mathlib.Core.Logic.{inl, inr, ⊎-elim}
 use mathlib.Core.List.{List}
 use native.Mathlib.Omega.{arith}
 use native.Mathlib.Nat.{zero-add}
-use lib.ListN.{length, getD, set, take, drop, length-drop}
-use lib.Seq.{take-all}
+use lib.ListN.{length, getD, set}
 use lib.Dec.{leb, eqb}
 use borrow.Author.Tests.{leb-true, le-leb, lt-leb, eq-eqb, ne-eqb}
 use Rattle.lists.proofs.Choices.{order, zero-or, and-right}
 use Rattle.lists.proofs.Storing.{Left, more, all, sets-all}
 use Rattle.lists.proofs.Tabled.{from-length, tabulate-at}
-use Rattle.circuit.specs.File.{numberAt}
-use Rattle.circuit.proofs.Numbers.{number-past, number-drop}
-use Rattle.waveform.specs.Words.{wordAt}
+use Rattle.numbers.specs.Numbers.{numberAt, wordAt}
 use Rattle.waveform.specs.Input.{whole, wordsFrom}
 use Rattle.waveform.specs.Steps.{listLength}
 
@@ -41,20 +38,6 @@ module _ (input : List ℕ) where
   whole-room e p =
       rw p (leb-true (2 + numberAt input 0) (length input) (and-right (leb (length input) 4096) _ (and-right (leb 2 (length input)) _ e)))
 
--- ---- a word of eight bytes
-
-pub word-past : (bytes : List ℕ) (at : ℕ) → length bytes ≤ at → 0 ≡ wordAt bytes at
-unfolding wordAt
-word-past bytes at h =
-    rw (number-past bytes at h, number-past bytes (at + 2) (omega (arith, h)), number-past bytes (at + 4) (omega (arith, h)), number-past bytes (at + 6) (omega (arith, h))) refl
-
-pub word-here : (bytes rest : List ℕ) (at : ℕ) → rest ≡ drop at bytes → {a b c d : ℕ} → a ≡ numberAt rest 0 → b ≡ numberAt rest 2 → c ≡ numberAt rest 4 → d ≡ numberAt rest 6
-    → a + 65536 * (b + 65536 * (c + 65536 * d)) ≡ wordAt bytes at
-unfolding wordAt
-word-here bytes rest at r {a} {b} {c} {d} p q s t =
-    rw (p, q, s, t, r, number-drop bytes at 0, number-drop bytes at 2, number-drop bytes at 4, number-drop bytes at 6)
-    (ap (λ (n : ℕ). numberAt bytes n + 65536 * (numberAt bytes (at + 2) + 65536 * (numberAt bytes (at + 4) + 65536 * numberAt bytes (at + 6)))) (omega arith))
-
 -- ---- the lists
 
 pub words-length : (part : List ℕ) (first n : ℕ) → length (wordsFrom part first n) ≡ n
@@ -74,10 +57,6 @@ pub taken-all : (part : List ℕ) (first : ℕ) (words₀ : List ℕ) {words : L
 taken-all part first words₀ {words} {k} f h =
     all f (omega (arith, f .same, words-length part first (length words₀)))
     ∙ sets-all words₀ (wordsFrom part first (length words₀)) (words-length part first (length words₀))
-
--- a part that goes to the end is all that is left
-pub rest-is : (bytes : List ℕ) (at : ℕ) → take (length bytes - at) (drop at bytes) ≡ drop at bytes
-rest-is bytes at = take-all (length bytes - at) (drop at bytes) (omega (arith, length-drop at bytes))
 
 -- ---- how many words a list has
 

@@ -6,10 +6,10 @@ use lib.ListN.{length, take, drop}
 use lib.Dec.{leb, eqb}
 use Rattle.lists.specs.Ladder.{Question, _orElse_}
 use Rattle.lists.specs.Tables.{tabulate}
-use Rattle.circuit.specs.File.{numberAt, inputsOf}
+use Rattle.numbers.specs.Numbers.{numberAt, wordAt}
+use Rattle.circuit.specs.File.{inputsOf}
 use Rattle.circuit.specs.Questions as reader
 use Rattle.planner.specs.Questions.{lastQuestion}
-use Rattle.waveform.specs.Words.{wordAt}
 
 -- an input has at most this many bytes
 abbrev pub mostBytes : ℕ

@@ -1,6 +1,6 @@
 -- What an accepted input prints: for lane 0 a line a net.
 use Prim.Native.Nat.{ℕ}
-use mathlib.Core.Bool.{Bool, cond}
+use mathlib.Core.Bool.{Bool}
 use mathlib.Core.List.{List, [], _∷_, _++_, flatten, zipWith}
 use Rattle.lists.specs.Tables.{tabulate}
 use Rattle.method.specs.Circuit.{Circuit}
@@ -8,11 +8,7 @@ use Rattle.method.specs.Frames.{framesAt}
 use Rattle.method.specs.Traces.{traceAt}
 use Rattle.method.specs.Packed.{laneOf}
 use Rattle.method.specs.Values.{netCount}
-use Rattle.waveform.specs.Text.{blank, newline, equals, glyph, decimal}
-
--- a frame: a blank and time=level
-unfoldable pub frameText : ℕ → Bool → List ℕ
-frameText time level = blank ∷ (decimal time ++ equals ∷ glyph (cond level 1 0) ∷ [])
+use Rattle.text.specs.Text.{newline, decimal, frameText}
 
 -- a line: the net's number, then its frames, whose times and levels are these, one level a frame, and a newline
 unfoldable pub line : ℕ → List ℕ → List Bool → List ℕ

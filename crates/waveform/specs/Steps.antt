@@ -13,13 +13,8 @@ use Rattle.circuit.specs.File.{circuitOf}
 use Rattle.method.specs.Layout.{firstFrame, frameCount}
 use Rattle.engine.specs.Areas.{Areas}
 use Rattle.engine.specs.Questions as engine
-use Rattle.waveform.specs.Text.{newline, decimal, refusal}
-use Rattle.waveform.specs.Lines.{frameText, lines}
-
--- `text` was written to the buffer from place `at` on, as far as the buffer reaches; `end` is the place behind it
-pub record Wrote (entry : List ℕ) (at : ℕ) (text exit : List ℕ) (end : ℕ) : Type 0 where
-  pub is : exit ≡ sets entry at text
-  pub up : end ≡ at + min (length text) (length entry - at)
+use Rattle.text.specs.Text.{newline, decimal, refusal, frameText}
+use Rattle.waveform.specs.Lines.{lines}
 
 -- how many words a word part of n bytes has for each list; where it does not divide, or has more than 32 for each, none
 abbrev pub listLength : ℕ → ℕ

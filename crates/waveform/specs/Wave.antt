@@ -10,7 +10,7 @@ use Rattle.circuit.specs.File.{circuitOf}
 use Rattle.waveform.specs.declared.Printing.{Printing}
 use Rattle.waveform.specs.declared.Printing.the-variants as P
 use Rattle.waveform.specs.Input.{whole, filePart, wordPart, beforeWords, afterWords, questions}
-use Rattle.waveform.specs.Text.{refusal}
+use Rattle.text.specs.Text.{refusal}
 use Rattle.waveform.specs.Lines.{lines}
 
 -- a file and a word part: `refused` and the number of the first "no", or the lines

@@ -4,7 +4,7 @@ ghost use Prim.Native.Nat.{_≤_};
 ghost use lib.ListN.{length};
 ghost use Rattle.waveform.specs.Input.{whole, wordsFrom};
 ghost use Rattle.waveform.specs.Steps.{listLength};
-use crate::word_at_byte;
+use numbers::word_at_byte;
 
 const MOST_BYTES: usize = 4096;
 
@@ -21,7 +21,7 @@ pub(crate) fn is_whole(input: &[u8]) -> bool
     if MOST_BYTES < input.len() {
         return false;
     }
-    let end = 2 + circuit::number_at(input, 0) as usize;
+    let end = 2 + numbers::number_at(input, 0) as usize;
     end <= input.len()
 }
 

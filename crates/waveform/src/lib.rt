@@ -1,11 +1,9 @@
 // What the wave program prints: from the bytes of its input to the bytes of its output.
 ghost use mathlib.Core.Path.{_≡_};
-ghost use Rattle.waveform.specs.Words.{wordAt};
 ghost use Rattle.waveform.specs.Wave.{page, waveOf, onPaper};
 
 mod input;
 mod nets;
-mod text;
 
 use input::is_whole;
 use nets::put_answer;
@@ -31,21 +29,6 @@ pub fn wave(input: &[u8], output: &mut [u8]) -> Printing
     if !is_whole(input) {
         return Printing::Printed(put_refused(output, 0));
     }
-    let end = 2 + circuit::number_at(input, 0) as usize;
+    let end = 2 + numbers::number_at(input, 0) as usize;
     Printing::Printed(put_answer(&input[2..end], &input[end..], output))
-}
-
-// The word whose eight bytes start at `at`, the least significant first. Past the end of the bytes it reads zeros.
-pub fn word_at_byte(bytes: &[u8], at: usize) -> u64
-    ensures { λ r. ⌜ r ≡ wordAt (now (bytes .entry)) at ⌝ }
-{
-    if bytes.len() <= at {
-        return 0;
-    }
-    let rest = &bytes[at..];
-    let a = circuit::number_at(rest, 0) as u64;
-    let b = circuit::number_at(rest, 2) as u64;
-    let c = circuit::number_at(rest, 4) as u64;
-    let d = circuit::number_at(rest, 6) as u64;
-    a + 65536 * (b + 65536 * (c + 65536 * d))
 }

@@ -6,16 +6,17 @@ ghost use Rattle.circuit.specs.File.{inputsOf, gatesOf};
 ghost use Rattle.circuit.specs.Limits.{mostInputs, mostGates};
 ghost use Rattle.engine.specs.Areas.{areas};
 ghost use Rattle.waveform.specs.Wave.{answerText};
-ghost use Rattle.waveform.specs.Steps.{Wrote, listLength, areaFrames, areaLine, areaLines, runText};
+ghost use Rattle.text.specs.Wrote.{Wrote};
+ghost use Rattle.waveform.specs.Steps.{listLength, areaFrames, areaLine, areaLines, runText};
 use crate::input::list_length;
 use crate::input::take_words;
-use crate::text::put_frame;
-use crate::text::put_newline;
-use crate::text::put_number;
-use crate::text::put_refused;
 use method::Net;
 use method::Time;
 use planner::Planning;
+use text::put_frame;
+use text::put_newline;
+use text::put_number;
+use text::put_refused;
 
 // The frames of a net, which start at place `first` of the areas, in lane 0.
 fn put_frames(
@@ -105,7 +106,7 @@ fn net_count(file: &[u8]) -> u16
     requires { ⌜ (inputsOf (now file) ≤ mostInputs) × (gatesOf (now file) ≤ mostGates) ⌝ }
     ensures { λ r. ⌜ r ≡ inputsOf (now (file .entry)) + gatesOf (now (file .entry)) ⌝ }
 {
-    circuit::number_at(file, 0) + circuit::number_at(file, 2)
+    numbers::number_at(file, 0) + numbers::number_at(file, 2)
 }
 
 // Takes both lists from the word part, which has as many words for each as they have places, and writes what Run answers

@@ -4,8 +4,9 @@ use Prim.Native.Nat.{_-_, _≤_}
 use mathlib.Core.Path.{refl}
 use native.Mathlib.Omega.{arith}
 use denote.Ref.{now}
-use Rattle.waveform.specs.Steps.{Wrote, areaFrames}
-use Rattle.waveform.proofs.Putting.{wrote-same, wrote-reached}
+use Rattle.text.specs.Wrote.{Wrote}
+use Rattle.waveform.specs.Steps.{areaFrames}
+use Rattle.text.proofs.Putting.{wrote-same, wrote-reached}
 use Rattle.waveform.proofs.Lining.{frames-none, frames-more}
 use borrow.Author.Needs.{needs}
 use Rattle.waveform.proofs.nets.put_frames.Statement.{statement}

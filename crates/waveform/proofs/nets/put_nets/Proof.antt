@@ -3,8 +3,9 @@
 use Prim.Native.Nat.{_-_, _≤_}
 use native.Mathlib.Omega.{arith}
 use denote.Ref.{now}
-use Rattle.waveform.specs.Steps.{Wrote, areaLines}
-use Rattle.waveform.proofs.Putting.{wrote-same, wrote-reached}
+use Rattle.text.specs.Wrote.{Wrote}
+use Rattle.waveform.specs.Steps.{areaLines}
+use Rattle.text.proofs.Putting.{wrote-same, wrote-reached}
 use Rattle.waveform.proofs.Lining.{lines-none, lines-more}
 use borrow.Author.Needs.{needs}
 use Rattle.waveform.proofs.nets.put_nets.Statement.{statement}

@@ -1,6 +1,6 @@
 -- `waveform::put_run` meets its contract. Run's answer is printed: its number, or the lines that its areas hold.
 -- Assumes nothing.
-use Rattle.waveform.proofs.Putting.{wrote-as}
+use Rattle.text.proofs.Putting.{wrote-as}
 use Rattle.waveform.proofs.Answering.{run-refused, run-limits, run-lines}
 use borrow.Author.Needs.{needs}
 use Rattle.waveform.proofs.nets.put_run.Statement.{statement}

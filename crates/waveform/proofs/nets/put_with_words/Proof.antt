@@ -5,7 +5,7 @@ use mathlib.Core.Path.{_≡_, refl}
 use native.Mathlib.Omega.{arith}
 use lib.ListN.{length, replicate, length-replicate}
 use Rattle.waveform.proofs.Taking.{list-few, list-small, list-taken, list-kept}
-use Rattle.waveform.proofs.Putting.{wrote-as}
+use Rattle.text.proofs.Putting.{wrote-as}
 use Rattle.waveform.proofs.Answering.{areas-pass, answer-is}
 use borrow.Author.Needs.{needs}
 use Rattle.waveform.proofs.nets.put_with_words.Statement.{statement}

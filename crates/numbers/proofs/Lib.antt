@@ -1,0 +1,2 @@
+-- Laws on numbers as bytes.
+pub mod Bytes
