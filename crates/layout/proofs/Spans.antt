@@ -16,7 +16,7 @@ use Rattle.circuit.specs.File.{faninAt}
 use Rattle.circuit.specs.Limits.{mostTime}
 use Rattle.method.specs.Limits.{mostNetFrames}
 use Rattle.method.specs.Layout.{firstFrame, frameCount, partOf}
-use Rattle.layout.specs.Steps.{Fed, spans}
+use Rattle.layout.specs.Steps.{Fed, Span, spans}
 
 -- ---- one net
 
@@ -66,3 +66,6 @@ module _ {file : List ℕ} {g : GateRecord} {d t : List ℕ} (f : Fed file g d t
   unfolding partOf
   fanin-early i =
       take-early mostTime (getD d (2 * n + 1) 0) (drop (getD d (2 * n) 0) t) (λ k. rw (getD-drop (getD d (2 * n) 0) t k 0) (f .early (getD d (2 * n) 0 + k))) i
+
+  pub fanin-span : Span (partOf d t n)
+  fanin-span = record { starts = rw q (f .starts e h); few = fanin-few; early = fanin-early }

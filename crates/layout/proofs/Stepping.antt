@@ -26,7 +26,7 @@ use Rattle.method.specs.Areas.{Areas}
 use Rattle.method.specs.Layout.{allTimes, allFanins, partOf}
 use Rattle.method.specs.Sums.{fits, latest, totalsOf}
 use Rattle.method.specs.First.{firstGates, Room}
-use Rattle.layout.specs.Steps.{Put, spans, Fed, Own, framesOf, Given, Place, Stored, Going, Reached}
+use Rattle.layout.specs.Steps.{Put, spans, Fed, Span, framesOf, Given, Place, Stored, Going, Reached}
 use Rattle.layout.proofs.Inserting.{front}
 use Rattle.method.proofs.Laying.{Spot, spot-at, low-area, times-snoc, total-more, fanins-more, Behind, laid-snoc}
 use Rattle.method.proofs.Prefix.{faninTimes, nextFrames, next-times, next-inertial, next-rows, next-even, next-count}
@@ -39,7 +39,8 @@ use Rattle.method.proofs.Latest.{latest-append, latest-is}
 -- own are the gate's times, not too many: there is room for them, and the areas in which they are stored hold the plan with
 -- this gate
 pub record Stays (file : List ℕ) (net j : ℕ) (a : Areas) (t : Totals) (g : GateRecord) (own : List ℕ) : Type 0 where
-  pub times : Own own
+  pub times : Span own
+  pub gathered : own ≡ gateTimes (g .delay) (spans file (g .list) (g .entries) (a .directory) (a .times))
   pub place : Place a net t (length own) (g .entries)
   pub stepped : {a′ : Areas} {t′ : Totals} → Stored a a′ net t t′ (g .entries) own (inertialIndices (g .inertial) own) (flatMap (faninRow (g .delay) (spans file (g .list) (g .entries) (a .directory) (a .times))) own)
       → Going file (j + 1) a′ t′
@@ -185,7 +186,7 @@ module _ (file : List ℕ) {a : Areas} (given : Given file a) (j : ℕ) (l : j <
       own-length : length (take (n - 0) (drop 0 row)) ≡ n
       own-length = ap length own-is ∙ n-is
 
-      times : Own (take (n - 0) (drop 0 row))
+      times : Span (take (n - 0) (drop 0 row))
       times =
           record {
             starts = rw own-is (starts-test (nextFrames (circuitOf file) j .times) own-starts);
@@ -234,7 +235,7 @@ module _ (file : List ℕ) {a : Areas} (given : Given file a) (j : ℕ) (l : j <
             }
 
       stays : Stays file net j a t g (take (n - 0) (drop 0 row))
-      stays = record { times = times; place = rw own-length place; stepped = stepped }
+      stays = record { times = times; gathered = front row n ∙ p .is; place = rw own-length place; stepped = stepped }
 
     timed : Timed file net j a t g (take (n - 0) (drop 0 row)) n
     timed = record { too-long = too-long; too-many = too-many; stays = stays }

@@ -1,17 +1,16 @@
 -- What the planner's own functions promise each other, gate by gate. A reader of Plan's promise may skip this file.
-use Prim.Native.Nat.{ℕ, _+_, _-_, _*_, _<_, _≤_, max}
+use Prim.Native.Nat.{ℕ, suc, _+_, _-_, _*_, _<_, _≤_, max}
 use mathlib.Core.Path.{_≡_}
 use mathlib.Core.Bool.{true, false}
 use mathlib.Core.List.{List, [], _∷_, _++_, map}
-use lib.ListN.{length, getD, take, drop}
+use lib.ListN.{length, getD, take, drop, set}
 use lib.Seq.{sets}
 use Rattle.lists.specs.Ladder.{accepted}
 use Rattle.lists.specs.Tables.{tabulate}
 use Rattle.lists.specs.Areas.{padded}
 use Rattle.method.specs.Kinds.{mostFanins}
 use Rattle.method.specs.Circuit.{Circuit}
-use Rattle.method.specs.Times.{insert, startAndRise}
-use Rattle.method.specs.Indices.{lastFrame}
+use Rattle.method.specs.Times.{insert, among, startAndRise}
 use Rattle.method.specs.Frames.{Frames, frames}
 use Rattle.method.specs.First.{firstGates, Room}
 use Rattle.circuit.specs.declared.GateRecord.{GateRecord}
@@ -45,6 +44,15 @@ pub record Put (row ts : List ℕ) (most r : ℕ) : Type 0 where
   pub size : length ts ≡ r
   pub few : r ≤ most
 
+-- each of these times plus d
+abbrev pub plus : ℕ → List ℕ → List ℕ
+plus d ss = map (λ (s : ℕ). s + d) ss
+
+-- ts stand behind the first `count` numbers of the row, which makes them r
+pub record Added (row row′ : List ℕ) (count : ℕ) (ts : List ℕ) (r : ℕ) : Type 0 where
+  pub is : take r row′ ≡ take count row ++ ts
+  pub size : r ≡ count + length ts
+
 -- ---- the nets that are planned already, as the areas have them
 
 -- the times of the nets in a fan-in list with this many entries, which starts at byte `list`
@@ -64,20 +72,20 @@ pub record Fed (file : List ℕ) (g : GateRecord) (d t : List ℕ) : Type 0 wher
   pub starts : (e : ℕ) → e < g .entries → startAndRise (partOf d t (faninAt file (g .list) e)) ≡ true
   pub early : (i : ℕ) → getD t i 0 ≤ mostTime
 
--- each hint is at most the frame to be found at this time
-pub record Below (ss : List (List ℕ)) (time : ℕ) (hints : List ℕ) : Type 0 where
-  pub hint : (e : ℕ) → e < length ss → getD hints e 0 ≤ lastFrame (getD ss e []) time
-
--- a row of fan-in indices is stored, and the hints still hold
-pub record Row (ss : List (List ℕ)) (time : ℕ) (hints : List ℕ) (at : ℕ) (f f′ : List ℕ) : Type 0 where
-  pub is : f′ ≡ sets f at (map (λ (s : List ℕ). lastFrame s time) ss)
-  pub below : Below ss time hints
-
--- a gate's own times: from 0 on and rising, not too many, none late
-pub record Own (ts : List ℕ) : Type 0 where
+-- the times of one net: from 0 on and rising, not too many, none late
+pub record Span (ts : List ℕ) : Type 0 where
   pub starts : startAndRise ts ≡ true
   pub few : length ts ≤ mostNetFrames
   pub early : (k : ℕ) → getD ts k 0 ≤ mostTime
+
+-- each later time of a fan-in, plus d, is one of the gate's own times ts
+pub record Shown (d : ℕ) (ss ts : List ℕ) : Type 0 where
+  pub shows : (s : ℕ) → among (suc s) ss ≡ true → among (suc s + d) ts ≡ true
+
+-- numbers stored one every `width` places, from `at` on
+unfoldable pub column : List ℕ → ℕ → ℕ → List ℕ → List ℕ
+column area at width [] = area
+column area at width (v ∷ vs) = column (set area at v) (at + width) width vs
 
 -- ---- gate by gate
 

@@ -3,11 +3,12 @@ ghost use mathlib.Core.Path.{_≡_};
 ghost use mathlib.Core.List.{flatMap};
 ghost use Prim.Native.Nat.{_+_, _<_, max};
 ghost use lib.ListN.{length};
+ghost use Rattle.method.specs.Times.{gateTimes};
 ghost use Rattle.method.specs.Indices.{inertialIndices};
 ghost use Rattle.method.specs.Frames.{faninRow};
 ghost use Rattle.circuit.specs.File.{inputsOf, gatesOf};
 ghost use Rattle.method.specs.Areas.{areas};
-ghost use Rattle.layout.specs.Steps.{Fed, Given, Going, Own, Place, Reached, Stored, spans};
+ghost use Rattle.layout.specs.Steps.{Fed, Given, Going, Place, Reached, Span, Stored, spans};
 use crate::MOST_FANINS;
 use crate::Progress;
 use crate::indices::index_rows;
@@ -114,7 +115,7 @@ fn store_gate(
     totals: Totals,
 ) -> Totals
     requires { ⌜ Fed (now file) gate (now directory) (now times) ⌝ }
-    requires { ⌜ Own (now own) ⌝ }
+    requires { ⌜ Span (now own) × (now own ≡ gateTimes (gate .delay) (spans (now file) (gate .list) (gate .entries) (now directory) (now times))) ⌝ }
     requires { ⌜ Place (areas (now directory) (now times) (now inertial) (now fanins)) (net .0) totals (length (now own)) (gate .entries) ⌝ }
     ensures { λ r. ⌜ Stored (areas (now (directory .entry)) (now (times .entry)) (now (inertial .entry)) (now (fanins .entry))) (areas (now (directory .exit)) (now (times .exit)) (now (inertial .exit)) (now (fanins .exit))) (net .0) totals r (gate .entries) (now (own .entry)) (inertialIndices (gate .inertial) (now (own .entry))) (flatMap (faninRow (gate .delay) (spans (now (file .entry)) (gate .list) (gate .entries) (now (directory .entry)) (now (times .entry)))) (now (own .entry))) ⌝ }
 {

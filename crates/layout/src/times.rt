@@ -1,22 +1,46 @@
 // The times of one gate, gathered from the times of its fan-ins.
 ghost use mathlib.Core.Path.{_≡_};
 ghost use Prim.Native.Nat.{ℕ, _+_, _-_, _*_, _≤_, _<_};
-ghost use mathlib.Core.Bool.{true};
-ghost use mathlib.Core.List.{_++_};
+ghost use mathlib.Core.Bool.{true, cond};
+ghost use mathlib.Core.List.{[], _∷_, _++_};
 ghost use lib.ListN.{length, getD, take, drop};
+ghost use lib.Dec.{leb};
 ghost use Rattle.lists.specs.Front.{leading};
 ghost use Rattle.method.specs.Kinds.{mostFanins};
 ghost use Rattle.method.specs.Times.{gateTimes, startAndRise};
 ghost use Rattle.circuit.specs.Limits.{mostDelay, mostTime};
 ghost use Rattle.method.specs.Limits.{mostNetFrames};
 ghost use Rattle.method.specs.Layout.{partOf};
-ghost use Rattle.layout.specs.Steps.{Fed, Inserted, Put, into, spans};
+ghost use Rattle.layout.specs.Steps.{Added, Fed, Inserted, Put, Span, into, plus, spans};
 use circuit::GateRecord;
 use method::Net;
 use method::Time;
 
 // Puts 0, and each later time of each fan-in plus the delay, at the front of `gathered`, rising, each once; how many.
+// Most gates have two fan-ins, and their times are merged.
 pub(crate) fn gate_times(
+    file: &[u8],
+    gate: GateRecord,
+    directory: &[u16],
+    times: &[u16],
+    gathered: &mut [u16],
+) -> usize
+    requires { ⌜ Fed (now file) gate (now directory) (now times) ⌝ }
+    requires { ⌜ 1 + mostFanins * mostNetFrames < length (now gathered) ⌝ }
+    ensures { λ r. ⌜ Put (now (gathered .exit)) (gateTimes (gate .delay) (spans (now (file .entry)) (gate .list) (gate .entries) (now (directory .entry)) (now (times .entry)))) (1 + mostFanins * mostNetFrames) r ⌝ }
+{
+    let delay = gate.delay;
+    let list = gate.list;
+    if gate.entries == 2 {
+        let one = times_of(directory, times, circuit::fanin_at(file, list, 0));
+        let other = times_of(directory, times, circuit::fanin_at(file, list, 1));
+        return merge_times(one, other, delay, gathered);
+    }
+    gather_times(file, gate, directory, times, gathered)
+}
+
+// The same for any number of fan-ins, one after the other.
+fn gather_times(
     file: &[u8],
     gate: GateRecord,
     directory: &[u16],
@@ -39,6 +63,46 @@ pub(crate) fn gate_times(
         e += 1;
     }
     count
+}
+
+// The same for two fan-ins with these times: at each turn the earlier of the two next ones, or both where they are the same.
+fn merge_times(one: &[u16], other: &[u16], delay: u16, gathered: &mut [u16]) -> usize
+    requires { ⌜ Span (now one) × Span (now other) × (delay ≤ mostDelay) ⌝ }
+    requires { ⌜ length (now one) + length (now other) < length (now gathered) ⌝ }
+    ensures { λ r. ⌜ Put (now (gathered .exit)) (gateTimes delay (now (one .entry) ∷ now (other .entry) ∷ [])) (length (now (one .entry)) + length (now (other .entry))) r ⌝ }
+{
+    gathered[0] = 0;
+    let mut n = 1;
+    let mut i = 1;
+    let mut j = 1;
+    while i < one.len() {
+        if other.len() <= j {
+            return add_rest(one, i, delay, gathered, n);
+        }
+        let s = Time(one[i]);
+        let t = Time(other[j]);
+        gathered[n] = earlier_of(s, t).0 + delay;
+        n += 1;
+        i += is_by(s, t);
+        j += is_by(t, s);
+    }
+    add_rest(other, j, delay, gathered, n)
+}
+
+// Puts the times of a fan-in from frame `from` on, each plus the delay, behind the first `count` gathered; how many there
+// are then.
+fn add_rest(fanin: &[u16], from: usize, delay: u16, gathered: &mut [u16], count: usize) -> usize
+    requires { ⌜ Span (now fanin) × (delay ≤ mostDelay) × (from ≤ length (now fanin)) × (count + (length (now fanin) - from) ≤ length (now gathered)) ⌝ }
+    ensures { λ r. ⌜ Added (now (gathered .entry)) (now (gathered .exit)) count (plus delay (drop from (now (fanin .entry)))) r ⌝ }
+{
+    let mut n = count;
+    let mut k = from;
+    while k < fanin.len() {
+        gathered[n] = fanin[k] + delay;
+        n += 1;
+        k += 1;
+    }
+    n
 }
 
 // The times of a net that is planned.
@@ -100,4 +164,18 @@ fn shift(gathered: &mut [u16], place: usize, count: usize)
         gathered[i] = moved;
         i -= 1;
     }
+}
+
+// The earlier of two times.
+fn earlier_of(a: Time, b: Time) -> Time
+    ensures { λ r. ⌜ r .0 ≡ cond (leb (a .0) (b .0)) (a .0) (b .0) ⌝ }
+{
+    if a.0 <= b.0 { a } else { b }
+}
+
+// 1 if a time is not after the limit, else 0: a number to add, since a jump here is often guessed wrong.
+pub(crate) fn is_by(time: Time, limit: Time) -> usize
+    ensures { λ r. ⌜ r ≡ cond (leb (time .0) (limit .0)) 1 0 ⌝ }
+{
+    if time.0 <= limit.0 { 1 } else { 0 }
 }

@@ -63,7 +63,7 @@ store-gate-requires : tie.Need-store-gate-requires
 store-gate-requires c κs =
     let k = known (c .before .before .before .before .before .before .before .before .before .before .before .before .before) in
     let f = k .timed (c .before .before .before .before .before .before .before .before .before .gate-times .ensures) .stays (omega (arith, c .before .before .before .before .before .before .before .if1 .left)) (omega (arith, c .before .before .before .before .before .before .if2 .left)) in
-    (k .fed, (f .times, f .place))
+    (k .fed, ((f .times, f .gathered), f .place))
 
 same-length-5 : tie.Need-same-length-5
 same-length-5 c = search needs

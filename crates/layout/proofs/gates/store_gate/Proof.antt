@@ -53,13 +53,13 @@ slice-write-directory-2 : tie.Need-slice-write-directory-2
 slice-write-directory-2 c = search needs
 
 sub-t19 : tie.Need-sub-t19
-sub-t19 c = let s = c .before .before .before .before .before .before .before .before .before .before .before .before .before .before .before .before .before .before .before .before .before .before in omega (arith, own-some (now (s .args .own)) (s .pre .1 .0 .starts))
+sub-t19 c = let s = c .before .before .before .before .before .before .before .before .before .before .before .before .before .before .before .before .before .before .before .before .before .before in omega (arith, own-some (now (s .args .own)) (s .pre .1 .0 .0 .starts))
 
 mul-t30 : tie.Need-mul-t30
 mul-t30 c = search needs
 
 shared-slice-read-t29 : tie.Need-shared-slice-read-t29
-shared-slice-read-t29 c = let s = c .before .before .before .before .before .before .before .before .before .before .before .before .before .before .before .before .before .before .before .before .before .before .before in omega (arith, own-some (now (s .args .own)) (s .pre .1 .0 .starts))
+shared-slice-read-t29 c = let s = c .before .before .before .before .before .before .before .before .before .before .before .before .before .before .before .before .before .before .before .before .before .before .before in omega (arith, own-some (now (s .args .own)) (s .pre .1 .0 .0 .starts))
 
 cast-t29 : tie.Need-cast-t29
 cast-t29 c = search needs

@@ -1,90 +1,69 @@
--- `gate_times` meets its contract: the times of the fan-ins from e on are still to be put in.
+-- `gate_times` meets its contract: where there are two fan-ins, their spans are the two that are merged.
 -- Assumes nothing.
-use Prim.Native.Nat.{_+_, _-_, _*_, _≤_}
-use mathlib.Core.Path.{_≡_, _∙_}
+use mathlib.Core.Path.{_≡_}
 use mathlib.Core.List.{[], _∷_}
-use lib.ListN.{length, take, drop, length-set}
-use lib.Seq.{length-take-le}
 use native.Mathlib.Omega.{arith}
 use denote.Ref.{now}
-use Rattle.method.specs.Limits.{mostNetFrames}
-use Rattle.layout.specs.Steps.{spans}
-use Rattle.layout.proofs.Gathered.{gather, gather-on, gather-end, gathered, one-in}
-use Rattle.layout.proofs.Spans.{fanin-there, fanin-few, fanin-early, spans-start, spans-end}
-use Rattle.layout.proofs.Indexing.{next-at}
+use Rattle.layout.specs.Steps.{Span, spans}
+use Rattle.layout.proofs.Spans.{fanin-there, fanin-span}
+use Rattle.layout.proofs.Indexing.{two-spans}
 use borrow.Author.Needs.{needs}
 use Rattle.layout.proofs.times.gate_times.Statement.{statement}
 use Rattle.layout.proofs.times.gate_times.Tie as tie
 
-abbrev Inv-loop : tie.InvT-loop
-Inv-loop file directory times gathered₀ delay list entries count₀ e₀ gathered count e = (e ≤ entries) × (count ≤ 1 + mostNetFrames * e) × (length gathered ≡ length gathered₀) × (gather delay (spans file list entries directory times) (0 ∷ []) ≡ gather delay (drop e (spans file list entries directory times)) (take count gathered))
-
-abbrev μ-loop : tie.MeasureT-loop
-μ-loop file directory times gathered₀ delay list entries count₀ e₀ gathered count e = entries - e
-
-slice-write-gathered : tie.Need-slice-write-gathered Inv-loop μ-loop
-slice-write-gathered c = search needs
-
-loop-holds : tie.Need-loop-holds Inv-loop μ-loop
-loop-holds c = (omega arith, omega arith, simp length-set, rw (← one-in (now (c .before .before .before .before .args .gathered)) (omega arith)))
-
-fanin-at-requires : tie.Need-fanin-at-requires Inv-loop μ-loop
+fanin-at-requires : tie.Need-fanin-at-requires
 fanin-at-requires c κs = search needs
 
-times-of-requires : tie.Need-times-of-requires Inv-loop μ-loop
-times-of-requires c κs = fanin-there (c .before .before .before .before .before .before .before .pre .0) (c .before .before .loop .e) (c .before .loop-test .taken) (c .fanin-at .ensures)
+times-of-requires : tie.Need-times-of-requires
+times-of-requires c κs = fanin-there (c .before .before .before .before .before .before .before .pre .0) 0 (omega (arith, c .before .if1 .taken)) (c .fanin-at .ensures)
 
-add-times-requires : tie.Need-add-times-requires Inv-loop μ-loop
-add-times-requires c κs =
-    let s = c .before .before .before .before .before .before .before .before .before in
-    let f = s .pre .0 in
-    let e = c .before .before .before .before .loop .e in
-    let h = c .before .before .before .loop-test .taken in
-    let n = c .before .before .fanin-at .ensures in
-    let few : length (now (c .before .times-of .result)) ≤ mostNetFrames = rw (c .before .times-of .ensures) (fanin-few f e h n) in
-    ((rw (c .before .times-of .ensures, n) (f .starts e h), λ i. rw (c .before .times-of .ensures) (fanin-early f e h n i)), (f .delay-least, f .delay-most, omega (arith, f .entries-most, s .pre .1, length-set (now (s .args .gathered)) 0 0)))
+fanin-at-requires-2 : tie.Need-fanin-at-requires-2
+fanin-at-requires-2 c κs = search needs
 
-add-e : tie.Need-add-e Inv-loop μ-loop
-add-e c = search needs
+times-of-requires-2 : tie.Need-times-of-requires-2
+times-of-requires-2 c κs = fanin-there (c .before .before .before .before .before .before .before .before .before .pre .0) 1 (omega (arith, c .before .before .before .if1 .taken)) (c .fanin-at2 .ensures)
 
-loop-less : tie.Need-loop-less Inv-loop μ-loop
-loop-less c = search needs
+-- the two fan-ins
+one : (c : tie.After-times-of2) → Span (now (c .before .before .times-of .result))
+one c = rw (c .before .before .times-of .ensures) (fanin-span (c .before .before .before .before .before .before .before .before .before .before .pre .0) 0 (omega (arith, c .before .before .before .before .if1 .taken)) (c .before .before .before .fanin-at .ensures))
 
-loop-again : tie.Need-loop-again Inv-loop μ-loop
-loop-again c =
-    let s = c .before .before .before .before .before .before .before .before .before .before .before .before in
-    let l = c .before .before .before .before .before .before .before .loop in
-    let few : length (now (c .before .before .before .before .times-of .result)) ≤ mostNetFrames = rw (c .before .before .before .before .times-of .ensures) (fanin-few (s .pre .0) (l .e) (c .before .before .before .before .before .before .loop-test .taken) (c .before .before .before .before .before .fanin-at .ensures)) in (
-      omega arith,
-      omega (arith, c .before .before .add-times .ensures .few),
-      omega (arith, c .before .before .add-times .kept),
-      gather-on (spans (now (s .args .file)) (s .args .gate .list) (s .args .gate .entries) (now (s .args .directory)) (now (s .args .times))) (s .args .gate .delay) (l .e) (take (l .count) (l .gathered)) (l .inv .3) (next-at _ _ _ _ _ _ (c .before .before .before .before .before .before .loop-test .taken) (c .before .before .before .before .before .fanin-at .ensures) (c .before .before .before .before .times-of .ensures)) (c .before .before .add-times .ensures .is),
-    )
+other : (c : tie.After-times-of2) → Span (now (c .times-of2 .result))
+other c = rw (c .times-of2 .ensures) (fanin-span (c .before .before .before .before .before .before .before .before .before .before .pre .0) 1 (omega (arith, c .before .before .before .before .if1 .taken)) (c .before .fanin-at2 .ensures))
 
-same-length : tie.Need-same-length Inv-loop μ-loop
-same-length c = omega (arith, c .before .loop .inv .2, length-set (now (c .before .before .before .before .before .before .args .gathered)) 0 0)
+both : (c : tie.After-times-of2) → let s = c .before .before .before .before .before .before .before .before .before .before in spans (now (s .args .file)) (s .args .gate .list) (s .args .gate .entries) (now (s .args .directory)) (now (s .args .times)) ≡ now (c .before .before .times-of .result) ∷ now (c .times-of2 .result) ∷ []
+both c = two-spans _ _ _ _ _ (omega (arith, c .before .before .before .before .if1 .taken)) (c .before .before .before .fanin-at .ensures) (c .before .fanin-at2 .ensures) (c .before .before .times-of .ensures) (c .times-of2 .ensures)
 
-returns : tie.Need-returns Inv-loop μ-loop
+merge-times-requires : tie.Need-merge-times-requires
+merge-times-requires c κs = ((one (c .before), other (c .before), c .before .before .before .before .before .before .before .before .before .before .before .pre .0 .delay-most), omega (arith, one (c .before) .few, other (c .before) .few, c .before .before .before .before .before .before .before .before .before .before .before .pre .1))
+
+same-length : tie.Need-same-length
+same-length c = search needs
+
+returns : tie.Need-returns
 returns c =
-    let s = c .before .before .before .before .before .before in
-    let l = c .before .loop in
-    let g = gathered (s .args .gate .delay) (spans (now (s .args .file)) (s .args .gate .list) (s .args .gate .entries) (now (s .args .directory)) (now (s .args .times))) (spans-start (s .pre .0)) in
-    let e = gather-end (spans (now (s .args .file)) (s .args .gate .list) (s .args .gate .entries) (now (s .args .directory)) (now (s .args .times))) (s .args .gate .delay) (l .e) (take (l .count) (l .gathered)) (l .inv .3) (spans-end _ _ _ _ _ _ (c .loop-test .left)) in
-    record { is = e ∙ g; size = rw (← g, ← e) (length-take-le _ _ (omega (arith, s .pre .0 .entries-most, s .pre .1, length-set (now (s .args .gathered)) 0 0))); few = omega (arith, s .pre .0 .entries-most) }
+    let m = c .before .before .merge-times .ensures in
+    record { is = rw (both (c .before .before .before .before)) (m .is); size = rw (both (c .before .before .before .before)) (m .size); few = omega (arith, m .few, one (c .before .before .before .before) .few, other (c .before .before .before .before) .few) }
+
+gather-times-requires : tie.Need-gather-times-requires
+gather-times-requires c κs = search needs
+
+same-length-2 : tie.Need-same-length-2
+same-length-2 c = search needs
+
+returns-2 : tie.Need-returns-2
+returns-2 c = search needs
 
 pub gate-times-spec : {M : Type 1} → statement M
 gate-times-spec =
     tie.close
     (tie.spec
-    Inv-loop
-    μ-loop
-    slice-write-gathered
-    loop-holds
     fanin-at-requires
     times-of-requires
-    add-times-requires
-    add-e
-    loop-less
-    loop-again
+    fanin-at-requires-2
+    times-of-requires-2
+    merge-times-requires
     same-length
-    returns)
+    returns
+    gather-times-requires
+    same-length-2
+    returns-2)
