@@ -3,7 +3,6 @@
 use Prim.Native.Nat.{ℕ}
 use mathlib.Core.Path.{_≡_, sym, _∙_}
 use mathlib.Core.List.{List}
-use lib.ListN.{length}
 use Rattle.lists.specs.Areas.{cleared}
 use Rattle.method.specs.Frames.{Frames, frames}
 use Rattle.circuit.specs.File.{gatesOf, circuitOf}

@@ -1,93 +1,23 @@
--- What the planner's own functions promise each other, gate by gate. A reader of Plan's promise may skip this file.
-use Prim.Native.Nat.{ℕ, suc, _+_, _-_, _*_, _<_, _≤_, max}
+-- What the functions of this crate ask for and promise, gate by gate.
+use Prim.Native.Nat.{ℕ, _+_, _-_, _*_, _<_, _≤_, max}
 use mathlib.Core.Path.{_≡_}
 use mathlib.Core.Bool.{true, false}
-use mathlib.Core.List.{List, [], _∷_, _++_, map}
-use lib.ListN.{length, getD, take, drop, set}
+use mathlib.Core.List.{List, [], _∷_}
+use lib.ListN.{length, getD}
 use lib.Seq.{sets}
 use Rattle.lists.specs.Ladder.{accepted}
-use Rattle.lists.specs.Tables.{tabulate}
-use Rattle.lists.specs.Areas.{padded}
 use Rattle.method.specs.Kinds.{mostFanins}
-use Rattle.method.specs.Circuit.{Circuit}
-use Rattle.method.specs.Times.{insert, among, startAndRise}
 use Rattle.method.specs.Frames.{Frames, frames}
 use Rattle.method.specs.First.{firstGates, Room}
-use Rattle.circuit.specs.declared.GateRecord.{GateRecord}
-use Rattle.circuit.specs.File.{inputsOf, gatesOf, faninAt, circuitOf}
-use Rattle.circuit.specs.Limits.{mostDelay, mostTime}
-use Rattle.circuit.specs.Questions.{readOf}
+use Rattle.method.specs.Limits.{mostTotalFrames}
+use Rattle.method.specs.Areas.{Areas, allCleared}
+use Rattle.method.specs.Layout.{laid}
+use Rattle.method.specs.Sums.{fits, totalsOf}
 use Rattle.method.specs.declared.Totals.{Totals}
+use Rattle.circuit.specs.File.{inputsOf, gatesOf, circuitOf}
+use Rattle.circuit.specs.Questions.{readOf}
 use Rattle.layout.specs.declared.Progress.{Progress}
 use Rattle.layout.specs.declared.Progress.the-variants as P
-use Rattle.method.specs.Limits.{mostNetFrames, mostTotalFrames}
-use Rattle.method.specs.Areas.{Areas, allCleared}
-use Rattle.method.specs.Layout.{allTimes, allFanins, pairs, laid, partOf}
-use Rattle.method.specs.Sums.{fits, totalsOf}
-
--- ---- the times of one gate, gathered from those of its fan-ins
-
--- t is inserted into the first `count` numbers of the row, which makes them r; the rest is as it was
-pub record Inserted (row row′ : List ℕ) (count t r : ℕ) : Type 0 where
-  pub count-is : r ≡ length (insert t (take count row))
-  pub row-is : row′ ≡ insert t (take count row) ++ drop r row
-  pub most : r ≤ count + 1
-
--- each of these times plus d, inserted one after the other
-unfoldable pub into : ℕ → List ℕ → List ℕ → List ℕ
-into d [] ts = ts
-into d (s ∷ ss) ts = into d ss (insert (s + d) ts)
-
--- the first r numbers of the row are ts, at most `most`
-pub record Put (row ts : List ℕ) (most r : ℕ) : Type 0 where
-  pub is : take r row ≡ ts
-  pub size : length ts ≡ r
-  pub few : r ≤ most
-
--- each of these times plus d
-abbrev pub plus : ℕ → List ℕ → List ℕ
-plus d ss = map (λ (s : ℕ). s + d) ss
-
--- ts stand behind the first `count` numbers of the row, which makes them r
-pub record Added (row row′ : List ℕ) (count : ℕ) (ts : List ℕ) (r : ℕ) : Type 0 where
-  pub is : take r row′ ≡ take count row ++ ts
-  pub size : r ≡ count + length ts
-
--- ---- the nets that are planned already, as the areas have them
-
--- the times of the nets in a fan-in list with this many entries, which starts at byte `list`
-abbrev pub spans : List ℕ → ℕ → ℕ → List ℕ → List ℕ → List (List ℕ)
-spans file list entries d t = map (partOf d t) (tabulate entries (faninAt file list))
-
--- a gate within the limits whose fan-ins are all there: each has its pair in the directory and its times in the area, not
--- too many, from 0 on and rising; no time in the area is late
-pub record Fed (file : List ℕ) (g : GateRecord) (d t : List ℕ) : Type 0 where
-  pub delay-least : 1 ≤ g .delay
-  pub delay-most : g .delay ≤ mostDelay
-  pub inertial-most : g .inertial ≤ mostDelay
-  pub entries-most : g .entries ≤ mostFanins
-  pub pair : (e : ℕ) → e < g .entries → 2 * faninAt file (g .list) e + 1 < length d
-  pub inside : (e : ℕ) → e < g .entries → getD d (2 * faninAt file (g .list) e) 0 + getD d (2 * faninAt file (g .list) e + 1) 0 ≤ length t
-  pub few : (e : ℕ) → e < g .entries → getD d (2 * faninAt file (g .list) e + 1) 0 ≤ mostNetFrames
-  pub starts : (e : ℕ) → e < g .entries → startAndRise (partOf d t (faninAt file (g .list) e)) ≡ true
-  pub early : (i : ℕ) → getD t i 0 ≤ mostTime
-
--- the times of one net: from 0 on and rising, not too many, none late
-pub record Span (ts : List ℕ) : Type 0 where
-  pub starts : startAndRise ts ≡ true
-  pub few : length ts ≤ mostNetFrames
-  pub early : (k : ℕ) → getD ts k 0 ≤ mostTime
-
--- each later time of a fan-in, plus d, is one of the gate's own times ts
-pub record Shown (d : ℕ) (ss ts : List ℕ) : Type 0 where
-  pub shows : (s : ℕ) → among (suc s) ss ≡ true → among (suc s + d) ts ≡ true
-
--- numbers stored one every `width` places, from `at` on
-unfoldable pub column : List ℕ → ℕ → ℕ → List ℕ → List ℕ
-column area at width [] = area
-column area at width (v ∷ vs) = column (set area at v) (at + width) width vs
-
--- ---- gate by gate
 
 -- the frames of the inputs and the first j gates
 abbrev pub framesOf : List ℕ → ℕ → List Frames

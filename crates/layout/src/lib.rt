@@ -10,8 +10,6 @@ ghost use Rattle.method.specs.First.{inputsOnly, Inputs};
 ghost use Rattle.layout.specs.Steps.{Given, Filled};
 
 mod gates;
-mod indices;
-mod times;
 
 use gates::add_gates;
 use method::Time;

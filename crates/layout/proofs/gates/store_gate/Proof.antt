@@ -5,7 +5,7 @@ use native.Mathlib.Omega.{arith}
 use denote.Ref.{now}
 use lib.ListN.{length}
 use Rattle.method.proofs.Laying.{pair-stored}
-use Rattle.layout.proofs.Indexing.{own-some}
+use Rattle.gathering.proofs.Spans.{own-some}
 use borrow.Author.Needs.{needs}
 use Rattle.layout.proofs.gates.store_gate.Statement.{statement}
 use Rattle.layout.proofs.gates.store_gate.Tie as tie

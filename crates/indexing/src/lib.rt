@@ -1,0 +1,100 @@
+// The inertial indices and the fan-in indices of one gate, from its times and those of its fan-ins. An inner crate: its
+// functions ask their caller for what they need.
+ghost use mathlib.Core.Path.{_≡_};
+ghost use mathlib.Core.List.{map, flatMap};
+ghost use Prim.Native.Nat.{_+_, _-_, _*_, _≤_, _<_};
+ghost use lib.ListN.{length};
+ghost use lib.Seq.{sets};
+ghost use Rattle.method.specs.Kinds.{mostFanins};
+ghost use Rattle.method.specs.Times.{gateTimes};
+ghost use Rattle.method.specs.Indices.{lastFrame, faninIndex, inertialIndices};
+ghost use Rattle.method.specs.Frames.{faninRow};
+ghost use Rattle.circuit.specs.Limits.{mostDelay};
+ghost use Rattle.gathering.specs.Steps.{Fed, Span, spans};
+ghost use Rattle.indexing.specs.Steps.{Shown, column};
+use circuit::GateRecord;
+use gathering::is_by;
+use gathering::times_of;
+use method::Time;
+
+// Writes the inertial index of each of a gate's own times, from `first` on; `reach` is the inertial delay. The end of what
+// is within reach never moves back, so each search goes on where the one before ended.
+pub fn inertial_row(own: &[u16], reach: u16, inertial: &mut [u16], first: usize)
+    requires { ⌜ Span (now own) ⌝ }
+    requires { ⌜ (reach ≤ mostDelay) × (first + length (now own) ≤ length (now inertial)) ⌝ }
+    ensures { λ _. ⌜ now (inertial .exit) ≡ sets (now (inertial .entry)) first (inertialIndices reach (now (own .entry))) ⌝ }
+{
+    let mut later = 0;
+    let mut k = 0;
+    while k < own.len() {
+        later = slices::first_above(own, later, own[k] + reach);
+        inertial[first + k] = (later - (k + 1)) as u16;
+        k += 1;
+    }
+}
+
+// Writes the fan-in indices of all frames of a gate, whose own times these are, from `first` on: a row a frame, filled
+// fan-in by fan-in.
+pub fn index_rows(
+    file: &[u8],
+    gate: GateRecord,
+    directory: &[u16],
+    times: &[u16],
+    own: &[u16],
+    fanins: &mut [u16],
+    first: usize,
+)
+    requires { ⌜ Fed (now file) gate (now directory) (now times) ⌝ }
+    requires { ⌜ Span (now own) × (now own ≡ gateTimes (gate .delay) (spans (now file) (gate .list) (gate .entries) (now directory) (now times))) ⌝ }
+    requires { ⌜ first + length (now own) * gate .entries ≤ length (now fanins) ⌝ }
+    ensures { λ _. ⌜ now (fanins .exit) ≡ sets (now (fanins .entry)) first (flatMap (faninRow (gate .delay) (spans (now (file .entry)) (gate .list) (gate .entries) (now (directory .entry)) (now (times .entry)))) (now (own .entry))) ⌝ }
+{
+    let delay = gate.delay;
+    let list = gate.list;
+    let entries = gate.entries;
+    let mut e: u16 = 0;
+    while e < entries {
+        let fanin = times_of(directory, times, circuit::fanin_at(file, list, e));
+        index_column(
+            fanin,
+            delay,
+            own,
+            fanins,
+            first + e as usize,
+            entries as usize,
+        );
+        e += 1;
+    }
+}
+
+// Writes the index of one fan-in at each of a gate's own times, one every `width` places, from `at` on. Each later time of
+// the fan-in plus the delay is an own time, so the fan-in comes at most one frame on from one to the next.
+fn index_column(fanin: &[u16], delay: u16, own: &[u16], fanins: &mut [u16], at: usize, width: usize)
+    requires { ⌜ Span (now fanin) × (delay ≤ mostDelay) ⌝ }
+    requires { ⌜ Span (now own) × Shown delay (now fanin) (now own) ⌝ }
+    requires { ⌜ (width ≤ mostFanins) × (at + length (now own) * width < length (now fanins) + width) ⌝ }
+    ensures { λ _. ⌜ now (fanins .exit) ≡ column (now (fanins .entry)) at width (map (faninIndex delay (now (fanin .entry))) (now (own .entry))) ⌝ }
+{
+    let mut found = 0;
+    let mut place = at;
+    let mut k = 0;
+    while k < own.len() {
+        found = frame_by(fanin, delay, found, Time(own[k]));
+        fanins[place] = found as u16;
+        place += width;
+        k += 1;
+    }
+}
+
+// The fan-in's last frame that has begun at this time less the delay: `from`, or the one after it.
+fn frame_by(fanin: &[u16], delay: u16, from: usize, time: Time) -> usize
+    requires { ⌜ Span (now fanin) × (delay ≤ mostDelay) ⌝ }
+    requires { ⌜ (from ≤ lastFrame (now fanin) (time .0 - delay)) × (lastFrame (now fanin) (time .0 - delay) ≤ from + 1) ⌝ }
+    ensures { λ r. ⌜ r ≡ lastFrame (now (fanin .entry)) (time .0 - delay) ⌝ }
+{
+    let next = from + 1;
+    if fanin.len() <= next {
+        return from;
+    }
+    from + is_by(Time(fanin[next] + delay), time)
+}
