@@ -26,8 +26,9 @@ use Rattle.method.specs.Areas.{Areas}
 use Rattle.method.specs.Layout.{allTimes, allFanins, partOf}
 use Rattle.method.specs.Sums.{fits, latest, totalsOf}
 use Rattle.method.specs.First.{firstGates, Room}
+use Rattle.framing.specs.Steps.{Place, Stored}
 use Rattle.gathering.specs.Steps.{Put, spans, Fed, Span}
-use Rattle.layout.specs.Steps.{framesOf, Given, Place, Stored, Going, Reached}
+use Rattle.layout.specs.Steps.{framesOf, Given, Going, Reached}
 use Rattle.gathering.proofs.Inserting.{front}
 use Rattle.method.proofs.Laying.{Spot, spot-at, low-area, times-snoc, total-more, fanins-more, Behind, laid-snoc}
 use Rattle.method.proofs.Prefix.{faninTimes, nextFrames, next-times, next-inertial, next-rows, next-even, next-count}

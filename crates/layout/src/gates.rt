@@ -1,23 +1,14 @@
 // The gates, one after the other: each is planned from the nets before it.
 ghost use mathlib.Core.Path.{_≡_};
-ghost use mathlib.Core.List.{flatMap};
-ghost use Prim.Native.Nat.{_+_, _<_, max};
-ghost use lib.ListN.{length};
-ghost use Rattle.method.specs.Times.{gateTimes};
-ghost use Rattle.method.specs.Indices.{inertialIndices};
-ghost use Rattle.method.specs.Frames.{faninRow};
+ghost use Prim.Native.Nat.{_+_, _<_};
 ghost use Rattle.circuit.specs.File.{inputsOf, gatesOf};
 ghost use Rattle.method.specs.Areas.{areas};
-ghost use Rattle.gathering.specs.Steps.{Fed, Span, spans};
-ghost use Rattle.layout.specs.Steps.{Given, Going, Place, Reached, Stored};
+ghost use Rattle.layout.specs.Steps.{Given, Going, Reached};
 use crate::MOST_FANINS;
 use crate::Progress;
-use circuit::GateRecord;
+use framing::store_gate;
 use gathering::gate_times;
-use indexing::index_rows;
-use indexing::inertial_row;
 use method::Net;
-use method::Time;
 use method::Totals;
 
 const MOST_NET_FRAMES: usize = 64;
@@ -101,46 +92,4 @@ fn add_gate(
         fanins,
         totals,
     ))
-}
-
-// Writes the frames of a gate with these times, and its pair; the totals with this gate.
-fn store_gate(
-    file: &[u8],
-    gate: GateRecord,
-    net: Net,
-    own: &[u16],
-    directory: &mut [u16],
-    times: &mut [u16],
-    inertial: &mut [u16],
-    fanins: &mut [u16],
-    totals: Totals,
-) -> Totals
-    requires { ⌜ Fed (now file) gate (now directory) (now times) ⌝ }
-    requires { ⌜ Span (now own) × (now own ≡ gateTimes (gate .delay) (spans (now file) (gate .list) (gate .entries) (now directory) (now times))) ⌝ }
-    requires { ⌜ Place (areas (now directory) (now times) (now inertial) (now fanins)) (net .0) totals (length (now own)) (gate .entries) ⌝ }
-    ensures { λ r. ⌜ Stored (areas (now (directory .entry)) (now (times .entry)) (now (inertial .entry)) (now (fanins .entry))) (areas (now (directory .exit)) (now (times .exit)) (now (inertial .exit)) (now (fanins .exit))) (net .0) totals r (gate .entries) (now (own .entry)) (inertialIndices (gate .inertial) (now (own .entry))) (flatMap (faninRow (gate .delay) (spans (now (file .entry)) (gate .list) (gate .entries) (now (directory .entry)) (now (times .entry)))) (now (own .entry))) ⌝ }
-{
-    let count = own.len();
-    let first = totals.frames;
-    let at = totals.fanins;
-    let last = totals.last;
-    inertial_row(own, gate.inertial, inertial, first as usize);
-    index_rows(file, gate, directory, times, own, fanins, at as usize);
-    slices::store(times, first as usize, own);
-    let pair = 2 * (net.0 as usize);
-    directory[pair] = first;
-    directory[pair + 1] = count as u16;
-    let end = Time(own[count - 1]);
-    Totals {
-        frames: first + count as u16,
-        fanins: at + count as u16 * gate.entries,
-        last: later_of(last, end),
-    }
-}
-
-// The later of two times.
-fn later_of(a: Time, b: Time) -> Time
-    ensures { λ r. ⌜ r .0 ≡ max (a .0) (b .0) ⌝ }
-{
-    if a.0 < b.0 { b } else { a }
 }

@@ -11,7 +11,7 @@ use lib.Seq.{sets, drop-cons, set-comm}
 use Rattle.lists.proofs.Storing.{sets-append}
 use Rattle.method.specs.Indices.{faninIndex}
 use Rattle.method.specs.Frames.{faninRow}
-use Rattle.indexing.specs.Steps.{column}
+use Rattle.framing.specs.Steps.{column}
 
 -- ---- one column
 

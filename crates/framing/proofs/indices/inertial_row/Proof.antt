@@ -9,10 +9,10 @@ use Rattle.lists.specs.Front.{leading}
 use Rattle.lists.proofs.Storing.{Left, none, more, all}
 use Rattle.method.specs.Indices.{inertialIndices}
 use Rattle.method.proofs.Planned.{inertial-length}
-use Rattle.indexing.proofs.Indexing.{end-behind, end-within, end-index, end-next}
+use Rattle.framing.proofs.Indexing.{end-behind, end-within, end-index, end-next}
 use borrow.Author.Needs.{needs}
-use Rattle.indexing.proofs.inertial_row.Statement.{statement}
-use Rattle.indexing.proofs.inertial_row.Tie as tie
+use Rattle.framing.proofs.indices.inertial_row.Statement.{statement}
+use Rattle.framing.proofs.indices.inertial_row.Tie as tie
 
 abbrev Inv-loop : tie.InvT-loop
 Inv-loop own reach inertial₀ first later₀ k₀ inertial later k =

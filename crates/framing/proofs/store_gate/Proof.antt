@@ -7,8 +7,8 @@ use lib.ListN.{length}
 use Rattle.method.proofs.Laying.{pair-stored}
 use Rattle.gathering.proofs.Spans.{own-some}
 use borrow.Author.Needs.{needs}
-use Rattle.layout.proofs.gates.store_gate.Statement.{statement}
-use Rattle.layout.proofs.gates.store_gate.Tie as tie
+use Rattle.framing.proofs.store_gate.Statement.{statement}
+use Rattle.framing.proofs.store_gate.Tie as tie
 
 cast-inertial-row : tie.Need-cast-inertial-row
 cast-inertial-row c = search needs

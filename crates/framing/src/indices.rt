@@ -1,5 +1,4 @@
-// The inertial indices and the fan-in indices of one gate, from its times and those of its fan-ins. An inner crate: its
-// functions ask their caller for what they need.
+// The inertial indices and the fan-in indices of one gate, from its times and those of its fan-ins.
 ghost use mathlib.Core.Path.{_≡_};
 ghost use mathlib.Core.List.{map, flatMap};
 ghost use Prim.Native.Nat.{_+_, _-_, _*_, _≤_, _<_};
@@ -11,7 +10,7 @@ ghost use Rattle.method.specs.Indices.{lastFrame, faninIndex, inertialIndices};
 ghost use Rattle.method.specs.Frames.{faninRow};
 ghost use Rattle.circuit.specs.Limits.{mostDelay};
 ghost use Rattle.gathering.specs.Steps.{Fed, Span, spans};
-ghost use Rattle.indexing.specs.Steps.{Shown, column};
+ghost use Rattle.framing.specs.Steps.{Shown, column};
 use circuit::GateRecord;
 use gathering::is_by;
 use gathering::times_of;
@@ -19,7 +18,7 @@ use method::Time;
 
 // Writes the inertial index of each of a gate's own times, from `first` on; `reach` is the inertial delay. The end of what
 // is within reach never moves back, so each search goes on where the one before ended.
-pub fn inertial_row(own: &[u16], reach: u16, inertial: &mut [u16], first: usize)
+pub(crate) fn inertial_row(own: &[u16], reach: u16, inertial: &mut [u16], first: usize)
     requires { ⌜ Span (now own) ⌝ }
     requires { ⌜ (reach ≤ mostDelay) × (first + length (now own) ≤ length (now inertial)) ⌝ }
     ensures { λ _. ⌜ now (inertial .exit) ≡ sets (now (inertial .entry)) first (inertialIndices reach (now (own .entry))) ⌝ }
@@ -35,7 +34,7 @@ pub fn inertial_row(own: &[u16], reach: u16, inertial: &mut [u16], first: usize)
 
 // Writes the fan-in indices of all frames of a gate, whose own times these are, from `first` on: a row a frame, filled
 // fan-in by fan-in.
-pub fn index_rows(
+pub(crate) fn index_rows(
     file: &[u8],
     gate: GateRecord,
     directory: &[u16],

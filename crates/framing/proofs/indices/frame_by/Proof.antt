@@ -7,10 +7,10 @@ use denote.Ref.{now}
 use Rattle.method.specs.Indices.{lastFrame}
 use Rattle.method.proofs.Rising.{Starts, test-starts}
 use Rattle.method.proofs.Lasting.{last-within}
-use Rattle.indexing.proofs.Indexing.{stays-last, steps}
+use Rattle.framing.proofs.Indexing.{stays-last, steps}
 use borrow.Author.Needs.{needs}
-use Rattle.indexing.proofs.frame_by.Statement.{statement}
-use Rattle.indexing.proofs.frame_by.Tie as tie
+use Rattle.framing.proofs.indices.frame_by.Statement.{statement}
+use Rattle.framing.proofs.indices.frame_by.Tie as tie
 
 start : (s : tie.Start) → Starts (now (s .args .fanin))
 start s = test-starts (now (s .args .fanin)) (s .pre .0 .0 .starts)

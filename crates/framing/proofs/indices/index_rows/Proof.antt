@@ -9,11 +9,11 @@ use native.Mathlib.Omega.{arith}
 use Rattle.method.specs.Frames.{faninRow}
 use Rattle.gathering.specs.Steps.{spans}
 use Rattle.gathering.proofs.Spans.{spans-length, spans-end, next-at, fanin-there, fanin-span}
-use Rattle.indexing.proofs.Indexing.{shown-at}
-use Rattle.indexing.proofs.Columns.{columns, columns-all, columns-on, columns-end}
+use Rattle.framing.proofs.Indexing.{shown-at}
+use Rattle.framing.proofs.Columns.{columns, columns-all, columns-on, columns-end}
 use borrow.Author.Needs.{needs}
-use Rattle.indexing.proofs.index_rows.Statement.{statement}
-use Rattle.indexing.proofs.index_rows.Tie as tie
+use Rattle.framing.proofs.indices.index_rows.Statement.{statement}
+use Rattle.framing.proofs.indices.index_rows.Tie as tie
 
 abbrev Inv-loop : tie.InvT-loop
 Inv-loop file directory times own fanins₀ first delay list entries e₀ fanins e =

@@ -22,7 +22,7 @@ use Rattle.method.proofs.Lasting.{leading-all, upTo-low, last-count, last-mono,
 use Rattle.circuit.specs.File.{faninAt}
 use Rattle.method.specs.Layout.{partOf}
 use Rattle.gathering.specs.Steps.{spans}
-use Rattle.indexing.specs.Steps.{Shown}
+use Rattle.framing.specs.Steps.{Shown}
 use Rattle.gathering.proofs.Spans.{own-next, spans-length, spans-at}
 
 -- ---- inertial indices: that of frame k is how many frames behind it the search for its end passes

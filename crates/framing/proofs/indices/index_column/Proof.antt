@@ -11,12 +11,12 @@ use lib.ListN.{length, getD, drop, length-set}
 use Rattle.method.specs.Indices.{lastFrame, faninIndex}
 use Rattle.method.proofs.Rising.{Starts, test-starts}
 use Rattle.method.proofs.Lasting.{last-within}
-use Rattle.indexing.specs.Steps.{column}
-use Rattle.indexing.proofs.Indexing.{index-at, walk-start, walk-low, walk-high}
-use Rattle.indexing.proofs.Columns.{column-on, column-end, place-in, place-on}
+use Rattle.framing.specs.Steps.{column}
+use Rattle.framing.proofs.Indexing.{index-at, walk-start, walk-low, walk-high}
+use Rattle.framing.proofs.Columns.{column-on, column-end, place-in, place-on}
 use borrow.Author.Needs.{needs}
-use Rattle.indexing.proofs.index_column.Statement.{statement}
-use Rattle.indexing.proofs.index_column.Tie as tie
+use Rattle.framing.proofs.indices.index_column.Statement.{statement}
+use Rattle.framing.proofs.indices.index_column.Tie as tie
 
 abbrev Inv-loop : tie.InvT-loop
 Inv-loop fanin delay own fanins₀ at width found₀ place₀ k₀ fanins found place k =

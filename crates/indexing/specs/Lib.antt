@@ -1,3 +1,0 @@
--- What the functions of this crate ask for and promise: the indices of one gate. An inner crate: a reader of Plan's promise
--- may skip it.
-pub mod Steps
