@@ -60,11 +60,11 @@ use Rattle.marking.specs.declared.Marking.the-variants.{Refused}
 use Rattle.marking.specs.Verdict.{Verdict}
 use Rattle.marking.specs.Mark.{markOf, onPaper}
 use Rattle.marking.specs.Steps.{netsNeeded, asked, askedOf, searched}
-use Rattle.marking.proofs.Again.{LentAgain, lends-again, comes-back}
+use Rattle.walks.proofs.Again.{LentAgain, lends-again, comes-back}
 use Rattle.marking.proofs.Marked.{mark-no, mark-yes}
-use Rattle.marking.proofs.Shown.{shares-slice}
+use Rattle.walks.proofs.Shown.{shares-slice}
 use Rattle.marking.proofs.Turns.{apart}
-use Rattle.marking.proofs.Walking.{hole, tests}
+use Rattle.walks.proofs.Walking.{hole, tests}
 use Rattle.marking.proofs.Expectation as T
 use Rattle.marking.proofs.Marking as Mk
 use Rattle.marking.proofs.Marking.Laws as Mk′

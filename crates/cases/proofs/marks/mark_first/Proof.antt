@@ -58,7 +58,8 @@ use Rattle.marking.proofs.mark as mark
 use Rattle.marking.proofs.mark.Symbol as mark-def
 use Rattle.marking.proofs.mark.Symbol.{name as #marking·mark}
 use Rattle.marking.proofs.mark.Met as mark-thm
-use Rattle.cases.proofs.Lent.{Twelve, twelve, twelve-tells, Whole, First, Rest, room, taken, shorter, shorter-mut, apart, together, cuts, glues}
+use Rattle.walks.proofs.Lent.{taken, shorter, shorter-mut, apart, together, cuts, glues}
+use Rattle.cases.proofs.Twelve.{Twelve, one, twelve, twelve-tells, Whole, First, Rest, room}
 use Rattle.cases.proofs.marks.mark_first.Key.{name as #cases·mark-first}
 use Rattle.cases.proofs.marks.mark_first as f
 use Rattle.cases.proofs.marks.mark_first.Statement as stated
@@ -201,8 +202,8 @@ module _ {M : Type 1} (𝓤 : URA M) (H : Heap 𝓤) (A : Atoms 𝓤) (W : Given
         -- what the parameters own, one by one; x' is what x owns
         move ! (49 ∷ []) $ fsplit ! $ move ! (1 ∷ []) $ fsplit ! $ move ! (1 ∷ []) $ fsplit ! $ move ! (1 ∷ []) $ fsplit ! $ move ! (1 ∷ []) $ fsplit ! $ move ! (1 ∷ []) $ fsplit ! $ move ! (1 ∷ []) $ fsplit ! $ move ! (1 ∷ []) $ fsplit ! $ move ! (1 ∷ []) $ fsplit ! $ move ! (1 ∷ []) $ fsplit ! $ move ! (1 ∷ []) $ drop ! $ drop ! $
         -- [array'; after'; before'; v'; f'; i'; t'; d'; file'; _23; …; the token]: the array is its first k elements and the rest
-        move ! (33 ∷ 0 ∷ []) $ use2 W (‵ (Whole xs l₁₁)) (apart 𝓤 H A W xs l₁₁) $
-        use1 W (‵ (First k xs l₁₁) ⊛ ‵ (Rest k xs l₁₁)) (cuts 𝓤 H A W k xs l₁₁) $ split ! $
+        move ! (33 ∷ 0 ∷ []) $ use2 W (‵ (Whole xs l₁₁)) (apart 𝓤 H A W T.the-row 12 one (LL.tells T.the-type T′.the-laws) tt xs l₁₁) $
+        use1 W (‵ (First k xs l₁₁) ⊛ ‵ (Rest k xs l₁₁)) (cuts 𝓤 H A W T.the-row 12 k xs l₁₁) $ split ! $
         -- a lifetime that ends no later than κ, and its token
         lft-new ! tt (λ ν. use1 W (‵ (flft (ν ∷ []) q) ⊛ raw (wand 𝓤 (A .lft (ν ∷ []) q) (A .lft (ν ∷ []) fullShare))) (W .lfts .lft-carve ν q) $ split ! $ move ! (59 ∷ []) $ split ! $ move ! (1 ∷ []) $ drop ! $
         move ! (1 ∷ 0 ∷ []) $ use2 W (‵ (flft (ν ∷ κ) q)) (W .lfts .lft-meet (ν ∷ []) κ q) $
@@ -220,7 +221,7 @@ module _ {M : Type 1} (𝓤 : URA M) (H : Heap 𝓤) (A : Atoms 𝓤) (W : Given
         -- elements are the array again
         move ! (1 ∷ []) $ split ! $ use1 W (‵ (flft (ν ∷ []) q) ⊛ ‵ (flft κ q)) (W .lfts .lft-unmeet (ν ∷ []) κ q) $ split ! $ move ! (0 ∷ 6 ∷ []) $ apply ! $ use1 W (‵ (flft (ν ∷ []) fullShare)) (id⊢ 𝓤 _) $ lft-end ! tt $
         use1 W (‵ (fdead (ν ∷ κ))) (W .lfts .dead-incl (ν ∷ κ) (ν ∷ []) (λ a m. mem-append-left κ m)) $ move ! (0 ∷ 5 ∷ []) $ lent-back ! tt $
-        move ! (0 ∷ 5 ∷ []) $ use2 W (‵ (Whole xs l₁₁)) (glues 𝓤 H A W k xs l₁₁ len) $ use1 W (‵ (fat fullShare (tyArray T′.mir 12) l₁₁ 0 (only (twelve xs)))) (together 𝓤 H A W xs l₁₁) $
+        move ! (0 ∷ 5 ∷ []) $ use2 W (‵ (Whole xs l₁₁)) (glues 𝓤 H A W T.the-row 12 k xs l₁₁ len) $ use1 W (‵ (fat fullShare (tyArray T′.mir 12) l₁₁ 0 (only (twelve xs)))) (together 𝓤 H A W T.the-row 12 one (LL.tells T.the-type T′.the-laws) xs l₁₁) $
         -- [_11; κ's token; true; the result; the last lists; _23; …]
         returns ! (look ! 50 refl) $ forget ! 0 refl $ forget ! 5 refl $ forget ! 7 refl $ forget ! 9 refl $ forget ! 11 refl $ forget ! 13 refl $ forget ! 15 refl $ forget ! 17 refl $ forget ! 19 refl $ forget ! 21 refl $ forget ! 23 refl $ forget ! 25 refl $ forget ! 27 refl $ forget ! 30 refl $ forget ! 32 refl $ forget ! 34 refl $ forget ! 36 refl $ forget ! 38 refl $ forget ! 40 refl $ forget ! 42 refl $ forget ! 44 refl $ forget ! 46 refl $ forget ! 48 refl $ forget ! 50 refl $
         move ! (50 ∷ 51 ∷ []) $ free1 ! $ move ! (48 ∷ 49 ∷ []) $ free1 ! $ move ! (46 ∷ 47 ∷ []) $ free1 ! $ move ! (44 ∷ 45 ∷ []) $ free1 ! $ move ! (42 ∷ 43 ∷ []) $ free1 ! $ move ! (40 ∷ 41 ∷ []) $ free1 ! $ move ! (38 ∷ 39 ∷ []) $ free1 ! $ move ! (36 ∷ 37 ∷ []) $ free1 ! $ move ! (34 ∷ 35 ∷ []) $ free1 ! $ move ! (32 ∷ 33 ∷ []) $ free1 ! $ move ! (30 ∷ 31 ∷ []) $ free1 ! $ move ! (0 ∷ 29 ∷ []) $ free1 ! $ move ! (26 ∷ 27 ∷ []) $ free1 ! $ move ! (24 ∷ 25 ∷ []) $ free1 ! $ move ! (22 ∷ 23 ∷ []) $ free1 ! $ move ! (20 ∷ 21 ∷ []) $ free1 ! $ move ! (18 ∷ 19 ∷ []) $ free1 ! $ move ! (16 ∷ 17 ∷ []) $ free1 ! $ move ! (14 ∷ 15 ∷ []) $ free1 ! $ move ! (12 ∷ 13 ∷ []) $ free1 ! $ move ! (10 ∷ 11 ∷ []) $ free1 ! $ move ! (8 ∷ 9 ∷ []) $ free1 ! $ move ! (6 ∷ 7 ∷ []) $ free1 ! $ move ! (4 ∷ 5 ∷ []) $ free1 ! $ free0 ! $
@@ -236,7 +237,7 @@ module _ {M : Type 1} (𝓤 : URA M) (H : Heap 𝓤) (A : Atoms 𝓤) (W : Given
       (𝓣 .C) (𝓣 .Λ) (fmOf 𝓤 H (W .laws) 𝓣) known
       (are .0 .0 .1 .0) (are .1 .0 .0 .1 .0) (are .1 .1 .0 .0 .1 .0) (are .1 .1 .1 .0 .0 .1 .0) (are .1 .1 .1 .1 .0 .0 .1 .0) (are .1 .1 .1 .1 .1 .0 .0 .1 .0) (are .1 .1 .1 .1 .1 .1 .0 .0 .1 .0) (are .1 .1 .1 .1 .1 .1 .1 .0 .0 .1 .0)
       (array-typed T.the-row (LL.lawful T.the-type T′.the-laws 𝓤 H A W .typed) 12 (a .1 .1 .1 .1 .1 .1 .1 .1 .0) _ (are .1 .1 .1 .1 .1 .1 .1 .1 .0) .0) (are .1 .1 .1 .1 .1 .1 .1 .1 .0 .1 .0 .1) (are .1 .1 .1 .1 .1 .1 .1 .1 .1 .0 .1)
-      (taken (a .1 .1 .1 .1 .1 .1 .1 .1 .1 .0) (a .1 .1 .1 .1 .1 .1 .1 .1 .0) (are .1 .1 .1 .1 .1 .1 .1 .1 .0 .1 .0 .1) fit) fit))
+      (taken 12 (a .1 .1 .1 .1 .1 .1 .1 .1 .1 .0) (a .1 .1 .1 .1 .1 .1 .1 .1 .0) (are .1 .1 .1 .1 .1 .1 .1 .1 .0 .1 .0 .1) fit) fit))
 
   f-meets : Meets 𝓤 H A f.signature (WpFn 𝓤 H (𝓣 .C) (𝓣 .Λ) code.function) (f.spec 𝓤 H A mem run)
   f-meets = walk-meets 𝓤 H A f.ended stayed W (

@@ -54,7 +54,7 @@ use denote.Exit.{yes}
 use Rattle.marking.specs.declared.Expectation.{Expectation}
 use Rattle.marking.specs.Steps.{netsFor, netsNeeded}
 use Rattle.marking.proofs.Turns.{nought, before-end, neededFrom, needed-start, needed-end, needed-on}
-use Rattle.marking.proofs.Walking.{hole, held, tests}
+use Rattle.walks.proofs.Walking.{hole, held, tests}
 use Rattle.marking.proofs.Expectation as T
 use Rattle.marking.proofs.Expectation.Laws as T′
 use Rattle.marking.proofs.asking.at_least as one

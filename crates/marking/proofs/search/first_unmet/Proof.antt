@@ -66,7 +66,7 @@ use Rattle.marking.specs.Verdict.{Verdict}
 use Rattle.marking.specs.Mark.{onPaper}
 use Rattle.marking.specs.Steps.{breaksAt, searched}
 use Rattle.marking.proofs.Turns.{nought, before-end, fromPlace, fromFrame, search-end, search-one, frames-end, frame-breaks, frame-holds, all-met, unmet}
-use Rattle.marking.proofs.Walking.{hole, held, rest-of, tests, tests-while}
+use Rattle.walks.proofs.Walking.{hole, held, rest-of, tests, tests-while}
 use Rattle.marking.proofs.Expectation as T
 use Rattle.marking.proofs.Expectation.Laws as T′
 use Rattle.marking.proofs.Marking as Mk

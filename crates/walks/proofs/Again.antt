@@ -1,5 +1,5 @@
 -- A `&κ mut [T]` that is lent again for a lifetime κ′ of a call, and comes back: `Denote/Lend.antt`'s `lends-again` and
--- `comes-back`, of a slice. It says nothing of Mark.
+-- `comes-back`, of a slice.
 --     LentAgain        what the holder keeps while the slice is lent again under the name γ₁: the lender's part at κ′,
 --                      and its own borrow at κ, open, with both halves of its ghost variable
 --     lends-again      own (the `&κ mut [T]` ((b, o), γ, ys)) ∗ [κ]_q  ⊢ ⇛ ∃ γ₁. own (the `&κ′ mut [T]` ((b, o), γ₁, ys))

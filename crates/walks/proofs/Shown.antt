@@ -1,5 +1,5 @@
 -- A `&κ mut [T]` that is not written again is shared for all the time that it has left: it becomes a `&κ [T]` on the same
--- elements, its own name ends at them, and the token stays. It says nothing of Mark.
+-- elements, its own name ends at them, and the token stays.
 --     shares-slice     own (the `&κ mut [T]` ((b, o), γ, ys)) ∗ [κ]_q  ⊢ ⇛ ∃ γ₁. own (the `&κ [T]` ((b, o), γ₁, ys)) ∗
 --                      finally γ ys ∗ [κ]_q
 -- It is `Borrow/Rule/Slice/Handed.antt`'s `sl-share` over `Denote/Slice.antt`'s types. No new lifetime is made, so one

@@ -1,0 +1,42 @@
+-- An array of twelve expectations of which the first k are lent: the rules of `walks` at that type and length.
+use mathlib.Core.Path.{_≡_}
+use Prim.Native.Nat.{ℕ, _≤_}
+use mathlib.Core.List.{List}
+use lib.ListN.{length, take}
+use native.Mathlib.Omega.{arith}
+use mir.Val.{Val}
+use base.Fml.{Fml}
+use denote.RattleType.{RattleType}
+use denote.Laws.{Is}
+use denote.Array.{Array, array-vals, array-tells}
+use denote.Slice.{Room}
+use denote.Struct.Laws as LL
+use Rattle.marking.specs.declared.Expectation.{Expectation}
+use Rattle.marking.proofs.Expectation as T
+use Rattle.marking.proofs.Expectation.Laws as T′
+use Rattle.walks.proofs.Lent as lent
+
+abbrev pub Twelve : RattleType
+Twelve = Array T.the-row 12
+
+abbrev pub one : Expectation → List Val
+one = LL.vals T.the-type T′.the-laws
+
+abbrev pub twelve : List Expectation → List Val
+twelve = array-vals one
+
+pub twelve-tells : (xs : List Expectation) (vs : List Val) → Is Twelve xs vs → vs ≡ twelve xs
+twelve-tells = array-tells T.the-row one (LL.tells T.the-type T′.the-laws) 12
+
+-- ---- the array in the local l: whole, its first k elements, and the rest
+abbrev pub Whole : List Expectation → ℕ → Fml
+Whole = lent.Whole T.the-row 12
+
+abbrev pub First : ℕ → List Expectation → ℕ → Fml
+First = lent.First T.the-row
+
+abbrev pub Rest : ℕ → List Expectation → ℕ → Fml
+Rest = lent.Rest T.the-row
+
+pub room : (k : ℕ) (xs : List Expectation) → length (take k xs) ≡ k → k ≤ 12 → Room T.the-row (length (take k xs))
+room k xs e fit = (omega (arith, e, fit), omega (arith, e, fit))
