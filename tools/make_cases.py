@@ -1,18 +1,19 @@
 #!/usr/bin/env python3
-"""Writes the test program's input and what it must print: crates/cases/stdin and stdout.
+"""Writes the test programs' input and what they must print: stdin and stdout of crates/cases and of crates/marks.
 
-The top of crates/cases/src/main.rt says what a case and its line are. What the reader must answer is known by the way a file
-is made: a circuit within the limits, or one fault put into its file, or more, of which the earliest counts. Nothing here
-reads a file back. What the calls must answer and leave is worked out by document 01's rules: Plan net by net, with sets and
-counts and none of the program's ways; Run lane by lane, with Bools, compared with the time-by-time machine in some lanes of
-every case at every time of every net; Mark time by time on the machine's levels. Run it from the repository's root; building
-and testing need none of it.
+The tops of crates/cases/src/main.rt, crates/marks/src/main.rt and crates/testbench/src/lib.rt say what a case and its line
+are. What the reader must answer is known by the way a file is made: a circuit within the limits, or one fault put into its
+file, or more, of which the earliest counts. Nothing here reads a file back. What the calls must answer and leave is worked
+out by document 01's rules: Plan net by net, with sets and counts and none of the programs' ways; Run lane by lane, with
+Bools, compared with the time-by-time machine in some lanes of every case at every time of every net; Mark time by time on
+the machine's levels. Run it from the repository's root; building and testing need none of it.
 """
+import collections
 import functools
 import random
 
 rng = random.Random(7)
-cases = []  # (kind, bytes, line)
+cases, marks = [], []  # what the two programs are given, each case as its bytes and its line
 
 
 def two(n):
@@ -211,67 +212,80 @@ CLEARED = left([[]] * 5)
 # ---- the lines
 
 
-def planned_part(run, lengths, untouched):
+def with_sums(answer, sums):
+    return f"{answer} {' '.join(map(str, sums))}"
+
+
+def plan_part(run, lengths, untouched):
     """What Plan answers and leaves. It is not handed the values."""
     if lengths[:4] != RIGHT[:4]:
-        return "refused 10", untouched
+        return with_sums("refused 10", untouched[:4])
     if not run.plan:
-        return "refused 13", CLEARED[:4] + untouched[4:]
+        return with_sums("refused 13", CLEARED[:4])
     answer, areas = run.plan
-    return answer, left(areas) + untouched[4:]
+    return with_sums(answer, left(areas))
 
 
-def run_part(run, fault, untouched):
-    """What Run answers and leaves, with the number of its first "no"."""
+def asked_of(run, inputs, lengths):
+    """The first "no" among Run's questions behind the reader's, or 0."""
+    return 10 if lengths != RIGHT else 11 if [len(run.before), len(run.after)] != [inputs] * 2 else 0
+
+
+def sums_after(run, fault, untouched):
+    """What Run leaves, with the number of its first "no"."""
     if fault:
-        return f"refused {fault}", CLEARED if fault == 13 else untouched
-    answer, areas = run.plan
+        return CLEARED if fault == 13 else untouched
     quarters = [word >> shift & 65535 for net in run.values for word in net for shift in (0, 16, 32, 48)]
-    return answer, left(areas + [quarters])
+    return left(run.plan[1] + [quarters])
 
 
-def lanes_seen(times, values, time):
-    """What Level and Count see in all lanes."""
+def lanes_seen(run, net, time):
+    """What Level and Count see of a net in all lanes."""
+    times, values = (run.times[net], run.values[net]) if net < len(run.nets) else ([], [])
     no = look_fault(times, values, 63)
     if no:
         return f"refused {no}"
     return f"{level_at(times, values, time):016x} {summed(int(count_of(times, values, lane)) for lane in range(64))}"
 
 
-def answers(run, inputs, lengths, rubbish, net, time, expectations):
-    """What is printed behind the reader's answer for an accepted file."""
+def case_line(number, inputs, run, lengths, rubbish, net, time):
+    """What the reader, Plan, Run's questions and Run answer and leave, and what is seen of the net."""
     untouched = filled(lengths, rubbish)
-    asked = 10 if lengths != RIGHT else 11 if [len(run.before), len(run.after)] != [inputs] * 2 else 0
-    fault = asked or (0 if run.plan else 13)
-    ran = marked = run_part(run, fault, untouched)
-    looks = []
-    if not fault:
-        times, values = (run.times[net], run.values[net]) if net < len(run.nets) else ([], [])
-        looks = [lanes_seen(times, values, time)]
-    if not asked and not all(suits(e, inputs + len(run.records)) for e in expectations):
-        marked = "refused 12", untouched
-    elif not fault:
-        marked = verdict(run, expectations), ran[1]
-    parts = [planned_part(run, lengths, untouched), (str(asked), untouched), ran, marked]
-    shown = [f"{answer} {' '.join(map(str, sums))}" for answer, sums in parts]
-    return shown[:3] + looks + shown[3:]
-
-
-def add(file, number, inputs, run, lengths=RIGHT, rubbish=None, net=0, lane=0, time=0, expectations=()):
-    """A case of kind `c`: the reader's number, or 0 with the inputs and the run of an accepted file."""
-    rubbish = rng.randrange(65536) if rubbish is None else rubbish
     if number:
-        line = [f"refused {number}"] + [f"{no} {' '.join(map(str, filled(lengths, rubbish)))}"
-                                        for no in (f"refused {number}", number) + (f"refused {number}",) * 2]
-    else:
-        line = [f"accepted {inputs} {len(run.records)}"]
-        line += answers(run, inputs, lengths, rubbish, net, time, expectations)
-    data = b"c" + len(file).to_bytes(4, "little") + b"".join(map(two, lengths)) + two(rubbish)
-    data += bytes([len(run.before), len(run.after)]) + two(net) + bytes([lane]) + two(time) + bytes([len(expectations)])
-    data += file
-    data += b"".join(word.to_bytes(8, "little") for word in run.before + run.after)
-    data += b"".join(two(n) + bytes([l]) + two(a) + two(b) + bytes([x]) for n, l, a, b, x in expectations)
-    cases.append(("c", data, "; ".join(line)))
+        refused = f"refused {number}"
+        return [refused, with_sums(refused, untouched[:4]), str(number), with_sums(refused, untouched)]
+    asked = asked_of(run, inputs, lengths)
+    fault = asked or (0 if run.plan else 13)
+    ran = with_sums(f"refused {fault}" if fault else run.plan[0], sums_after(run, fault, untouched))
+    line = [f"accepted {inputs} {len(run.records)}", plan_part(run, lengths, untouched), str(asked), ran]
+    return line if fault else line + [lanes_seen(run, net, time)]
+
+
+def mark_line(number, inputs, run, lengths, rubbish, expectations):
+    """What Mark answers and leaves."""
+    untouched = filled(lengths, rubbish)
+    fault = number or asked_of(run, inputs, lengths)
+    if not fault and not all(suits(e, inputs + len(run.records)) for e in expectations):
+        fault = 12
+    fault = fault or (0 if run.plan else 13)
+    return with_sums(f"refused {fault}" if fault else verdict(run, expectations), sums_after(run, fault, untouched))
+
+
+# ---- the cases
+
+
+def add(file, number, inputs, run, lengths=RIGHT, rubbish=None, net=0, time=0, expectations=(), marked_only=False):
+    """A case with a circuit, for both programs: the reader's number, or 0 with the inputs and the run of an accepted file."""
+    rubbish = rng.randrange(65536) if rubbish is None else rubbish
+    head = len(file).to_bytes(4, "little") + b"".join(map(two, lengths)) + two(rubbish)
+    head += bytes([len(run.before), len(run.after)])
+    data = file + b"".join(word.to_bytes(8, "little") for word in run.before + run.after)
+    records = b"".join(two(n) + bytes([l]) + two(a) + two(b) + bytes([x]) for n, l, a, b, x in expectations)
+    marks.append((bytes([len(expectations)]) + head + data + records,
+                  mark_line(number, inputs, run, lengths, rubbish, expectations)))
+    if not marked_only:
+        cases.append((b"c" + head + two(net) + two(time) + data,
+                      "; ".join(case_line(number, inputs, run, lengths, rubbish, net, time))))
 
 
 class Words:
@@ -317,7 +331,6 @@ def good(inputs, records, before=None, after=None, **more):
         more.setdefault("net", max(0, len(run.nets) - 1 - rng.choice([0, 0, 0, 1, 2])))
         if "time" not in more:
             more["time"] = max(0, rng.choice(run.times[more["net"]] + [run.last, 65535]) - rng.choice([0, 0, 1]))
-        more.setdefault("lane", rng.randrange(64))
         if "expectations" not in more:
             more["expectations"] = some_expectations(run, 12, lanes)
     add(file_of(inputs, records), 0, inputs, run, **more)
@@ -331,10 +344,10 @@ def bad(data, number, **more):
 
 
 def look(times, values, lane, time):
-    """A case of kind `l`."""
+    """A case of kind `l`: parts of a net that no run made."""
     data = b"l" + bytes([len(times), len(values), lane]) + two(time)
     data += b"".join(map(two, times)) + b"".join(value.to_bytes(8, "little") for value in values)
-    cases.append(("l", data, f"{level_of(times, values, lane, time)}; {count_of(times, values, lane)}"))
+    cases.append((data, f"{level_of(times, values, lane, time)}; {count_of(times, values, lane)}"))
 
 
 BUF, NOT, AND, NAND, OR, NOR, XOR, XNOR = range(8)
@@ -530,23 +543,23 @@ for rubbish in (0, 1, 7, 255, 256, 32767, 32768, 65279, 65535):
     good(2, small, rubbish=rubbish)
     good(1, comb(65), rubbish=rubbish)
 
-# ---- looks after a run: the waves of document 01's example at every time, then nets and lanes that are not there
+# ---- looks after a run: the waves of document 01's example at every time, then nets that are not there
 
 for di in (1, 2):
     for net in range(3):
         for time in (0, 1, 2, 3, 4, 5, 65535):
-            good(1, wave_circuit(di), [0], [1], net=net, lane=0, time=time, expectations=())
-# bench sheet, Others: lane 63 passes, 64 gives 16
-for net, lane, time in ((3, 0, 4), (159, 0, 4), (160, 0, 4), (65535, 64, 4), (3, 64, 4), (2, 64, 4), (2, 65, 4), (2, 255, 4),
-                        (1, 62, 0), (1, 63, 0), (1, 63, 65535)):
-    good(1, wave_circuit(1), [2**63 + 5], [2**62 + 6], net=net, lane=lane, time=time, expectations=())
+            good(1, wave_circuit(di), [0], [1], net=net, time=time, expectations=())
+for net, time in ((3, 4), (159, 4), (160, 4), (199, 4), (200, 4), (65535, 4), (2, 4), (1, 0), (1, 65535), (0, 0),
+                  (0, 65535)):
+    good(1, wave_circuit(1), [2**63 + 5], [2**62 + 6], net=net, time=time, expectations=())
 
 
 # ---- Mark
 
 
 def mark(inputs, records, words, expectations, **more):
-    good(inputs, records, words[0], words[1], expectations=tuple(expectations), **more)
+    """A case for the program of Mark alone."""
+    good(inputs, records, words[0], words[1], expectations=tuple(expectations), marked_only=True, **more)
 
 
 def spans(run, net, lane):
@@ -597,9 +610,9 @@ mark(1, marked, marked_words, [broken(met[9])] * 12)
 # inputs, and each lane by its own bits
 for l in (0, 1, 31, 32, 62, 63):
     first = int(marked_run.wave(0, l)[0])
-    mark(1, marked, marked_words, [(0, l, 0, 0, first), (0, l, 1, 65535, 1 - first)], lane=l)
-    mark(1, marked, marked_words, [(0, l, 0, 0, first), (0, l, 1, 9, first)], lane=l)
-    mark(1, marked, marked_words, [(net, l, 0, 65535, int(marked_run.wave(net, l)[-1]))], lane=l)
+    mark(1, marked, marked_words, [(0, l, 0, 0, first), (0, l, 1, 65535, 1 - first)])
+    mark(1, marked, marked_words, [(0, l, 0, 0, first), (0, l, 1, 9, first)])
+    mark(1, marked, marked_words, [(net, l, 0, 65535, int(marked_run.wave(net, l)[-1]))])
 # document 01's example: the level holds over frames that do not change it
 mark(1, wave_circuit(2), ([0], [1]), [(2, 0, 0, 65535, 0), (1, 0, 0, 2, 1), (1, 0, 3, 65535, 0), (1, 0, 2, 3, 0)])
 mark(1, wave_circuit(1), ([0], [1]), [(2, 0, 0, 1, 0), (2, 0, 2, 3, 1), (2, 0, 4, 9, 0), (2, 0, 1, 3, 1)])
@@ -668,7 +681,7 @@ def lively(inputs, gates, span):
 
 
 for size in ((1, 12, 4), (2, 12, 6), (4, 40, 10), (5, 60, 20), (8, 128, 60), (16, 128, 60), (32, 128, 100), (8, 128, 160)):
-    for turn in range(3):
+    for turn in range(4):
         good(size[0], lively(*size))
 
 # ---- parts of a net that no run made
@@ -687,7 +700,7 @@ for times, lane, time in (([1], 0, 1), ([1, 2], 0, 1), ([0, 0], 0, 0), ([0, 5, 5
                           ([0, 5, 7, 7], 0, 0), ([0, 5, 7, 6], 0, 0), ([0, 256, 255, 257], 0, 0), ([0, 5, 5], 64, 5)):
     look(times, [0, 1, 0, 1][:len(times)], lane, time)
 look(rising[:63] + [rising[62]], random_words(64), 0, 0)
-# question 16, and each lane by its own bit
+# question 16 (bench sheet, Others: lane 63 passes, 64 gives 16), and each lane by its own bit
 for lane in (64, 65, 127, 128, 255, 0, 1, 30, 31, 32, 62, 63):
     look(three, words, lane, 5)
 # times just before, at and behind those of the frames
@@ -702,16 +715,24 @@ for turn in range(60):
     times = [0] + sorted(rng.sample(range(1, rng.choice([100, 700, 65536])), n - 1))
     look(times, random_words(n), rng.randrange(64), max(0, rng.choice(times + [65535]) - rng.choice([0, 0, 1])))
 
-# ---- written out; the last case is one byte longer than the program's buffer, which ends the run
+# ---- written out; a last case that the program's buffers do not hold ends each run
 
-with open("crates/cases/stdin", "wb") as f:
-    f.writelines(data for _, data, _ in cases)
-    f.write(b"c" + (70001).to_bytes(4, "little") + b"".join(map(two, RIGHT)) + bytes(10))
-with open("crates/cases/stdout", "w") as f:
-    f.writelines(line + "\n" for _, _, line in cases)
-    f.write("cut\n")
-lines = [line for kind, _, line in cases if kind == "c"]
-print(len(lines), "circuits:", sum("; planned" in line for line in lines), "planned,",
-      sum("refused 13" in line for line in lines), "with 13,", sum("all met" in line for line in lines), "all met,",
-      sum("unmet" in line for line in lines), "unmet,", sum("refused 12" in line for line in lines), "with 12;",
-      len(cases) - len(lines), "looks")
+
+def write(program, made, too_large):
+    with open(f"crates/{program}/stdin", "wb") as f:
+        f.writelines(data for data, _ in made)
+        f.write(too_large)
+    with open(f"crates/{program}/stdout", "w") as f:
+        f.writelines(line + "\n" for _, line in made)
+        f.write("cut\n")
+
+
+lengths = b"".join(map(two, RIGHT))
+write("cases", cases, b"c" + (70001).to_bytes(4, "little") + lengths + bytes(8))  # a file of 70,001 bytes
+write("marks", marks, b"\x0d" + (4).to_bytes(4, "little") + lengths + bytes(4))  # 13 expectations
+
+lines = [line for data, line in cases if data[:1] == b"c"]
+print("cases:", len(lines), "circuits,", sum("; planned" in line for line in lines), "planned,",
+      sum("refused 13" in line for line in lines), "with 13;", len(cases) - len(lines), "looks")
+verdicts = collections.Counter(" ".join(line.split()[:2]) if line[0] != "u" else "unmet" for _, line in marks)
+print("marks:", len(marks), "circuits;", ", ".join(f"{n} {answer}" for answer, n in sorted(verdicts.items())))

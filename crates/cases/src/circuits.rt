@@ -1,154 +1,188 @@
-// A case of kind `c`: its bytes are read, and the calls are made on what they say.
-ghost use Prim.Native.Nat.{_≤_};
-ghost use lib.ListN.{length};
-use crate::calls::Ask;
-use crate::calls::Call;
-use crate::calls::show_call;
-use crate::input::length_at;
-use crate::input::limited;
-use crate::input::read_all;
-use crate::input::wide;
-use crate::input::words_of;
-use crate::marks::list_of;
+// A case of kind `c`: a circuit with its words, and the calls on it, each in areas of its own.
+use crate::nets::Look;
+use crate::nets::read_look;
+use crate::nets::show_net;
+use crate::print::show_fault;
+use crate::print::show_planning;
 use crate::print::show_reading;
-use libc::STDOUT_FILENO;
-use marking::Expectation;
-use method::Net;
-use method::Time;
+use testbench::Words;
+use testbench::after_count;
+use testbench::before_count;
+use testbench::directory_length;
+use testbench::end_line;
+use testbench::fanins_length;
+use testbench::file_length;
+use testbench::inertial_length;
+use testbench::is_held;
+use testbench::read_all;
+use testbench::read_words;
+use testbench::rubbish_directory;
+use testbench::rubbish_fanins;
+use testbench::rubbish_frames;
+use testbench::rubbish_of;
+use testbench::rubbish_values;
+use testbench::show_plan_sums;
+use testbench::show_semicolon;
+use testbench::show_sums;
+use testbench::times_length;
+use testbench::values_length;
 
 // False where the case is cut short or too large; then nothing is printed.
 pub(crate) fn circuit_case() -> bool {
-    let mut head = [0u8; 24];
+    let mut head = [0u8; 18];
     if !read_all(&mut head) {
         return false;
     }
-    if !fits(head) {
+    let look = read_look();
+    if !(look.whole && is_held(head)) {
         return false;
     }
-    let mut body = [0u8; 71376];
-    let file = limited(file_length(head), 70000);
-    let words = befores(head) + afters(head) + expected(head);
-    show_case(head, file, &mut body[0..file + 8 * words])
+    with_head(head, look)
 }
 
-// Whether the buffers hold the case. Below, a number that is too large is taken for its limit, so that nothing more has to
-// be shown of it.
-fn fits(head: [u8; 24]) -> bool {
-    is_within(head, 4, 400)
-        && is_within(head, 6, 2100)
-        && is_within(head, 8, 2100)
-        && is_within(head, 10, 16400)
-        && is_within(head, 12, 2100)
-        && file_length(head) <= 70000
-        && head[16] <= 80
-        && head[17] <= 80
-        && head[23] <= 12
+fn with_head(head: [u8; 18], look: Look) -> bool {
+    let mut file = [0u8; 70000];
+    with_file(head, look, &mut file[0..file_length(head)])
 }
 
-fn is_within(head: [u8; 24], at: usize, limit: usize) -> bool {
-    length_at(&head, at) <= limit
-}
-
-fn file_length(head: [u8; 24]) -> usize {
-    length_at(&head, 0) + 65536 * length_at(&head, 2)
-}
-
-fn befores(head: [u8; 24]) -> usize
-    ensures { λ r. ⌜ r ≤ 80 ⌝ }
-{
-    limited(wide(head[16]), 80)
-}
-
-fn afters(head: [u8; 24]) -> usize
-    ensures { λ r. ⌜ r ≤ 80 ⌝ }
-{
-    limited(wide(head[17]), 80)
-}
-
-// How many expectations.
-fn expected(head: [u8; 24]) -> usize
-    ensures { λ r. ⌜ r ≤ 12 ⌝ }
-{
-    limited(wide(head[23]), 12)
-}
-
-// Fills the body from the input, with the file in front, and prints the line.
-fn show_case(head: [u8; 24], file: usize, body: &mut [u8]) -> bool
-    requires { ⌜ (file ≤ 70000) × (file ≤ length (now body)) ⌝ }
-{
-    if !read_all(body) {
+// Fills the file from the input, and takes the words behind it.
+fn with_file(head: [u8; 18], look: Look, file: &mut [u8]) -> bool {
+    if !read_all(file) {
         return false;
     }
-    let first = befores(head);
-    let second = afters(head);
-    let before = words_of(body, file);
-    let after = words_of(body, file + 8 * first);
-    let list = list_of(body, file + 8 * first + 8 * second);
-    show_line(
-        head,
-        &body[0..file],
-        &before[0..first],
-        &after[0..second],
-        list,
-    );
+    let before = read_words(before_count(head));
+    let after = read_words(after_count(head));
+    with_words(head, look, file, before, after)
+}
+
+fn with_words(head: [u8; 18], look: Look, file: &[u8], before: Words, after: Words) -> bool {
+    if !(before.whole && after.whole) {
+        return false;
+    }
+    let first = before.list;
+    let second = after.list;
+    show_line(head, look, file, first, second);
     true
 }
 
-fn show_line<'a>(
-    head: [u8; 24],
-    file: &'a [u8],
-    before: &'a [u64],
-    after: &'a [u64],
-    list: [Expectation; 12],
-) {
+fn show_line(head: [u8; 18], look: Look, file: &[u8], before: [u64; 80], after: [u64; 80]) {
+    let b = &before[0..before_count(head)];
+    let a = &after[0..after_count(head)];
     show_reading(circuit::read(file));
-    in_areas(Call::Plan, head, file, before, after, list);
-    in_areas(Call::Questions, head, file, before, after, list);
-    in_areas(Call::Run, head, file, before, after, list);
-    in_areas(Call::Mark, head, file, before, after, list);
-    io::write_all(STDOUT_FILENO, b"\n");
+    show_semicolon();
+    plan_case(head, file);
+    show_semicolon();
+    questions_case(head, file, b, a);
+    show_semicolon();
+    run_case(head, look, file, b, a);
+    end_line();
 }
 
-fn ask_of(head: [u8; 24]) -> Ask {
-    Ask {
-        rubbish: numbers::number_at(&head, 14),
-        net: Net(numbers::number_at(&head, 18)),
-        time: Time(numbers::number_at(&head, 21)),
-        count: expected(head),
-    }
-}
-
-fn area_length(head: [u8; 24], at: usize, limit: usize) -> usize
-    ensures { λ r. ⌜ r ≤ limit ⌝ }
-{
-    limited(length_at(&head, at), limit)
-}
-
-// Makes one call, in areas of the lengths that the case gives.
-fn in_areas<'a>(
-    call: Call,
-    head: [u8; 24],
-    file: &'a [u8],
-    before: &'a [u64],
-    after: &'a [u64],
-    list: [Expectation; 12],
-) {
-    let mut d = [0u16; 400];
-    let mut t = [0u16; 2100];
-    let mut i = [0u16; 2100];
-    let mut f = [0u16; 16400];
-    let mut v = [0u64; 2100];
-    show_call(
-        call,
-        ask_of(head),
+// In these functions d, t, i, f and v are the areas: directory, times, inertial, fan-ins and values. Plan is not lent the
+// values.
+fn plan_case(head: [u8; 18], file: &[u8]) {
+    let r = rubbish_of(head);
+    plan_in(
+        head,
         file,
-        &mut d[0..area_length(head, 4, 400)],
-        &mut t[0..area_length(head, 6, 2100)],
-        &mut i[0..area_length(head, 8, 2100)],
-        &mut f[0..area_length(head, 10, 16400)],
-        &mut v[0..area_length(head, 12, 2100)],
+        rubbish_directory(r),
+        rubbish_frames(r),
+        rubbish_frames(r),
+        rubbish_fanins(r),
+    );
+}
+
+fn plan_in(
+    head: [u8; 18],
+    file: &[u8],
+    mut d: [u16; 400],
+    mut t: [u16; 2100],
+    mut i: [u16; 2100],
+    mut f: [u16; 16400],
+) {
+    show_planning(planner::plan(
+        file,
+        &mut d[0..directory_length(head)],
+        &mut t[0..times_length(head)],
+        &mut i[0..inertial_length(head)],
+        &mut f[0..fanins_length(head)],
+    ));
+    show_plan_sums(head, &d, &t, &i, &f);
+}
+
+// The questions are lent the areas to be read only, so that there is nothing left to be seen in them.
+fn questions_case(head: [u8; 18], file: &[u8], before: &[u64], after: &[u64]) {
+    let d = [0u16; 400];
+    let t = [0u16; 2100];
+    let i = [0u16; 2100];
+    let f = [0u16; 16400];
+    let v = [0u64; 2100];
+    show_fault(engine::questions(
+        file,
+        &d[0..directory_length(head)],
+        &t[0..times_length(head)],
+        &i[0..inertial_length(head)],
+        &f[0..fanins_length(head)],
+        &v[0..values_length(head)],
         before,
         after,
-        list,
+    ));
+}
+
+fn run_case(head: [u8; 18], look: Look, file: &[u8], before: &[u64], after: &[u64]) {
+    let r = rubbish_of(head);
+    run_in(
+        head,
+        look,
+        file,
+        before,
+        after,
+        rubbish_directory(r),
+        rubbish_frames(r),
+        rubbish_frames(r),
+        rubbish_fanins(r),
+        rubbish_values(r),
     );
+}
+
+fn run_in(
+    head: [u8; 18],
+    look: Look,
+    file: &[u8],
+    before: &[u64],
+    after: &[u64],
+    mut d: [u16; 400],
+    mut t: [u16; 2100],
+    mut i: [u16; 2100],
+    mut f: [u16; 16400],
+    mut v: [u64; 2100],
+) {
+    let ran = show_planning(engine::run(
+        file,
+        &mut d[0..directory_length(head)],
+        &mut t[0..times_length(head)],
+        &mut i[0..inertial_length(head)],
+        &mut f[0..fanins_length(head)],
+        &mut v[0..values_length(head)],
+        before,
+        after,
+    ));
+    show_left(ran, head, look, &d, &t, &i, &f, &v);
+}
+
+// Prints the sums of what Run left, and where there was a run what is seen of the net.
+fn show_left(
+    ran: bool,
+    head: [u8; 18],
+    look: Look,
+    d: &[u16; 400],
+    t: &[u16; 2100],
+    i: &[u16; 2100],
+    f: &[u16; 16400],
+    v: &[u64; 2100],
+) {
+    show_sums(head, d, t, i, f, v);
+    if ran {
+        show_net(head, look, d, t, v);
+    }
 }

@@ -1,66 +1,69 @@
 // What Level and Count see of a net.
-ghost use Prim.Native.Nat.{_<_, _≤_};
-use crate::areas::with_number;
-use crate::print::show_counted;
-use crate::print::show_refused;
-use crate::print::show_seen;
+ghost use Prim.Native.Nat.{_≤_};
+use crate::print::bit;
 use libc::STDOUT_FILENO;
 use looks::Counted;
 use looks::Seen;
 use method::Net;
 use method::Time;
+use testbench::Span;
+use testbench::directory_length;
+use testbench::read_all;
+use testbench::show_number;
+use testbench::show_refused;
+use testbench::show_semicolon;
+use testbench::span_of;
+use testbench::with_number;
 
-// From a net's first frame to behind its last.
-struct Span {
-    first: usize,
-    end: usize,
+// The net that is looked at after a run and the time at which its levels are asked for, and whether the input had them.
+pub(crate) struct Look {
+    pub(crate) whole: bool,
+    pub(crate) net: Net,
+    pub(crate) time: Time,
 }
 
-// A net's frames by its pair in the directory; none where the pair is not there or reaches behind the last frame.
-fn span_of(directory: &[u16], net: Net, frames: usize) -> Span
-    ensures { λ r. ⌜ (r .first ≤ r .end) × (r .end ≤ frames) ⌝ }
-{
-    let pair = 2 * wide(net.0);
-    if directory.len() < pair + 2 {
-        return Span { first: 0, end: 0 };
-    }
-    let first = wide(directory[pair]);
-    let end = first + wide(directory[pair + 1]);
-    if frames < end {
-        return Span { first: 0, end: 0 };
-    }
-    Span {
-        first: first,
-        end: end,
+pub(crate) fn read_look() -> Look {
+    let mut bytes = [0u8; 4];
+    look_in(&mut bytes)
+}
+
+fn look_in(bytes: &mut [u8]) -> Look {
+    let whole = read_all(bytes);
+    Look {
+        whole: whole,
+        net: Net(circuit::number_at(bytes, 0)),
+        time: Time(circuit::number_at(bytes, 2)),
     }
 }
 
-fn wide(x: u16) -> usize
-    ensures { λ r. ⌜ r < 65536 ⌝ }
-{
-    x as usize
-}
-
-// Prints what is seen of a net after a run; nothing where there was none.
+// Prints what is seen of the net after a run. The arrays hold the areas in front.
 pub(crate) fn show_net(
-    ran: bool,
-    directory: &[u16],
-    times: &[u16],
-    values: &[u64],
-    net: Net,
-    time: Time,
+    head: [u8; 18],
+    look: Look,
+    directory: &[u16; 400],
+    times: &[u16; 2100],
+    values: &[u64; 2100],
 ) {
-    if !ran {
-        return;
-    }
-    let span = span_of(directory, net, times.len());
+    let d = &directory[..];
+    let net = look.net;
+    let time = look.time;
+    show_semicolon();
+    show_frames(
+        times,
+        values,
+        span_of(&d[0..directory_length(head)], net, 2048),
+        time,
+    );
+}
+
+fn show_frames(times: &[u16; 2100], values: &[u64; 2100], span: Span, time: Time)
+    requires { ⌜ (span .first ≤ span .end) × (span .end ≤ 2048) ⌝ }
+{
+    let t = &times[..];
+    let v = &values[..];
     let first = span.first;
     let end = span.end;
-    if values.len() < end {
-        return;
-    }
-    io::write_all(STDOUT_FILENO, b"; ");
-    show_lanes(&times[first..end], &values[first..end], time);
+    show_lanes(&t[first..end], &v[first..end], time);
 }
 
 // Prints the level at the time in all lanes, and a sum of the lanes' counts.
@@ -68,8 +71,7 @@ fn show_lanes(times: &[u16], values: &[u64], time: Time) {
     match looks::level(times, values, 63, time) {
         Seen::Level(_) => {
             io::print_hex(STDOUT_FILENO, levels_of(times, values, time), 16);
-            io::write_all(STDOUT_FILENO, b" ");
-            io::print_decimal(STDOUT_FILENO, counts_of(times, values));
+            show_number(counts_of(times, values));
         }
         Seen::Refused(number) => show_refused(number),
     }
@@ -88,7 +90,7 @@ fn levels_of(times: &[u16], values: &[u64], time: Time) -> u64 {
 
 fn bit_of(answer: Seen) -> u64 {
     match answer {
-        Seen::Level(level) => { if level { 1 } else { 0 } }
+        Seen::Level(level) => bit(level),
         Seen::Refused(_) => 0,
     }
 }
@@ -108,12 +110,4 @@ fn changes_of(answer: Counted) -> u64 {
         Counted::Changes(changes) => changes as u64,
         Counted::Refused(_) => 0,
     }
-}
-
-// Prints what Level and Count answer for parts that no run made.
-pub(crate) fn show_parts(times: &[u16], values: &[u64], lane: u8, time: Time) {
-    show_seen(looks::level(times, values, lane, time));
-    io::write_all(STDOUT_FILENO, b"; ");
-    show_counted(looks::count(times, values, lane));
-    io::write_all(STDOUT_FILENO, b"\n");
 }

@@ -1,11 +1,15 @@
 // A case of kind `l`: a look at parts that no run made.
-use crate::input::limited;
-use crate::input::numbers_of;
-use crate::input::read_all;
-use crate::input::wide;
-use crate::input::words_of;
-use crate::nets::show_parts;
+ghost use Prim.Native.Nat.{_≤_};
+use crate::print::show_counted;
+use crate::print::show_seen;
 use method::Time;
+use testbench::Words;
+use testbench::end_line;
+use testbench::limited;
+use testbench::read_all;
+use testbench::read_words;
+use testbench::show_semicolon;
+use testbench::wide;
 
 // False where the case is cut short or too large; then nothing is printed.
 pub(crate) fn parts_case() -> bool {
@@ -13,32 +17,68 @@ pub(crate) fn parts_case() -> bool {
     if !read_all(&mut head) {
         return false;
     }
-    if 80 < head[0] {
+    if !is_held(head) {
         return false;
     }
-    if 80 < head[1] {
-        return false;
-    }
-    let mut body = [0u8; 800];
-    let frames = limited(wide(head[0]), 80);
-    let words = limited(wide(head[1]), 80);
-    with_parts(head, &mut body[0..2 * frames + 8 * words])
+    let mut times = [0u8; 160];
+    with_times(head, &mut times[0..2 * times_count(head)])
 }
 
-// Fills the body from the input, and prints the line.
-fn with_parts(head: [u8; 5], body: &mut [u8]) -> bool {
-    if !read_all(body) {
+fn is_held(head: [u8; 5]) -> bool {
+    head[0] <= 80 && head[1] <= 80
+}
+
+fn times_count(head: [u8; 5]) -> usize
+    ensures { λ r. ⌜ r ≤ 80 ⌝ }
+{
+    limited(wide(head[0]), 80)
+}
+
+fn values_count(head: [u8; 5]) -> usize
+    ensures { λ r. ⌜ r ≤ 80 ⌝ }
+{
+    limited(wide(head[1]), 80)
+}
+
+// Fills the times from the input, and takes the values behind them.
+fn with_times(head: [u8; 5], bytes: &mut [u8]) -> bool {
+    if !read_all(bytes) {
         return false;
     }
-    let frames = limited(wide(head[0]), 80);
-    let words = limited(wide(head[1]), 80);
-    let times = numbers_of(body);
-    let values = words_of(body, 2 * frames);
-    show_parts(
-        &times[0..frames],
-        &values[0..words],
-        head[2],
-        Time(numbers::number_at(&head, 3)),
-    );
+    with_values(head, numbers_of(bytes), read_words(values_count(head)))
+}
+
+// The first two-byte numbers; those behind the end are 0.
+fn numbers_of(bytes: &[u8]) -> [u16; 80] {
+    let mut numbers = [0u16; 80];
+    let mut k = 0;
+    while k < 80 {
+        numbers[k] = circuit::number_at(bytes, 2 * k);
+        k += 1;
+    }
+    numbers
+}
+
+fn with_values(head: [u8; 5], times: [u16; 80], values: Words) -> bool {
+    if !values.whole {
+        return false;
+    }
+    let words = values.list;
+    show_line(head, times, words);
     true
+}
+
+// Prints what Level and Count answer.
+fn show_line(head: [u8; 5], times: [u16; 80], values: [u64; 80]) {
+    let t = &times[0..times_count(head)];
+    let v = &values[0..values_count(head)];
+    let lane = head[2];
+    show_seen(looks::level(t, v, lane, time_of(head)));
+    show_semicolon();
+    show_counted(looks::count(t, v, lane));
+    end_line();
+}
+
+fn time_of(head: [u8; 5]) -> Time {
+    Time(circuit::number_at(&head, 3))
 }

@@ -1,19 +1,11 @@
-// Numbers and answers in print.
+// Answers in print.
 use circuit::Reading;
 use libc::STDOUT_FILENO;
 use looks::Counted;
 use looks::Seen;
 use planner::Planning;
-
-pub(crate) fn show_number(n: u64) {
-    io::write_all(STDOUT_FILENO, b" ");
-    io::print_decimal(STDOUT_FILENO, n);
-}
-
-pub(crate) fn show_refused(number: u8) {
-    io::write_all(STDOUT_FILENO, b"refused");
-    show_number(number as u64);
-}
+use testbench::show_number;
+use testbench::show_refused;
 
 pub(crate) fn show_reading(answer: Reading) {
     match answer {
@@ -26,7 +18,7 @@ pub(crate) fn show_reading(answer: Reading) {
     }
 }
 
-// True where there was a plan.
+// What Plan or Run answers. True where there was a plan.
 pub(crate) fn show_planning(answer: Planning) -> bool {
     match answer {
         Planning::Planned(totals) => {
@@ -44,17 +36,26 @@ pub(crate) fn show_planning(answer: Planning) -> bool {
     }
 }
 
+// What Run's questions answer: the number of the first "no", or 0.
+pub(crate) fn show_fault(number: u8) {
+    io::print_decimal(STDOUT_FILENO, number as u64);
+}
+
 pub(crate) fn show_seen(answer: Seen) {
     match answer {
         Seen::Level(level) => {
-            if level {
-                io::write_all(STDOUT_FILENO, b"1");
-            } else {
-                io::write_all(STDOUT_FILENO, b"0");
-            }
+            show_bit(level);
         }
         Seen::Refused(number) => show_refused(number),
     }
+}
+
+fn show_bit(level: bool) {
+    io::print_decimal(STDOUT_FILENO, bit(level));
+}
+
+pub(crate) fn bit(level: bool) -> u64 {
+    if level { 1 } else { 0 }
 }
 
 pub(crate) fn show_counted(answer: Counted) {

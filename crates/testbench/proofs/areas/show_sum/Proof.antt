@@ -1,16 +1,19 @@
--- `show_sum` meets its contract. The place rises to the length.
+-- `show_sum` meets its contract. The place rises to the end, which lies within the list.
 -- Assumes nothing.
-use Prim.Native.Nat.{_-_}
+use Prim.Native.Nat.{_-_, _≤_}
 use lib.ListN.{length}
 use borrow.Author.Needs.{needs}
-use Rattle.cases.proofs.areas.show_sum.Statement.{statement}
-use Rattle.cases.proofs.areas.show_sum.Tie as tie
+use Rattle.testbench.proofs.areas.show_sum.Statement.{statement}
+use Rattle.testbench.proofs.areas.show_sum.Tie as tie
 
 abbrev Inv-loop : tie.InvT-loop
-Inv-loop area sum₀ k₀ sum k = Unit
+Inv-loop numbers count end sum₀ k₀ sum k = end ≤ length numbers
 
 abbrev μ-loop : tie.MeasureT-loop
-μ-loop area sum₀ k₀ sum k = length area - k
+μ-loop numbers count end sum₀ k₀ sum k = end - k
+
+limited-requires : tie.Need-limited-requires Inv-loop μ-loop
+limited-requires c κs = search needs
 
 loop-holds : tie.Need-loop-holds Inv-loop μ-loop
 loop-holds c = search needs
@@ -48,6 +51,7 @@ show-sum-spec =
     (tie.spec
     Inv-loop
     μ-loop
+    limited-requires
     loop-holds
     mul-wide
     shared-slice-read-wide

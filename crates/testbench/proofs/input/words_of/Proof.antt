@@ -2,8 +2,8 @@
 -- Assumes nothing.
 use Prim.Native.Nat.{_-_}
 use borrow.Author.Needs.{needs}
-use Rattle.cases.proofs.input.words_of.Statement.{statement}
-use Rattle.cases.proofs.input.words_of.Tie as tie
+use Rattle.testbench.proofs.input.words_of.Statement.{statement}
+use Rattle.testbench.proofs.input.words_of.Tie as tie
 
 abbrev Inv-loop : tie.InvT-loop
 Inv-loop bytes at words₀ k₀ words k = Unit

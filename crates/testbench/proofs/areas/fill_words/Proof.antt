@@ -5,8 +5,8 @@ use Prim.Native.Nat.{_-_}
 use lib.ListN.{length, length-set}
 use native.Mathlib.Omega.{arith}
 use borrow.Author.Needs.{needs}
-use Rattle.cases.proofs.areas.fill_words.Statement.{statement}
-use Rattle.cases.proofs.areas.fill_words.Tie as tie
+use Rattle.testbench.proofs.areas.fill_words.Statement.{statement}
+use Rattle.testbench.proofs.areas.fill_words.Tie as tie
 
 abbrev Inv-loop : tie.InvT-loop
 Inv-loop values₀ rubbish entry₀ k₀ values entry k = length values ≡ length values₀

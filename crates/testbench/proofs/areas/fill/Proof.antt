@@ -5,8 +5,8 @@ use Prim.Native.Nat.{_-_}
 use lib.ListN.{length, length-set}
 use native.Mathlib.Omega.{arith}
 use borrow.Author.Needs.{needs}
-use Rattle.cases.proofs.areas.fill.Statement.{statement}
-use Rattle.cases.proofs.areas.fill.Tie as tie
+use Rattle.testbench.proofs.areas.fill.Statement.{statement}
+use Rattle.testbench.proofs.areas.fill.Tie as tie
 
 abbrev Inv-loop : tie.InvT-loop
 Inv-loop area₀ rubbish entry₀ k₀ area entry k = length area ≡ length area₀

@@ -1,4 +1,4 @@
--- `cases::marks::mark_first` meets its contract, which says nothing of the answer: it is safe, and it ends. A walk of its
+-- `marks::lending::mark_first` meets its contract, which says nothing of the answer: it is safe, and it ends. A walk of its
 -- MIR, by hand. The array's first elements are lent as a `&[T]` for a lifetime that ends no later than the slices' own: a
 -- new one, ν, met with theirs. `mark` has one lifetime, so each slice is shortened to that, and a `&mut` keeps its name:
 -- what `mark` leaves in an area is what this function leaves. After the call ν is ended, and the elements are the array
@@ -59,11 +59,11 @@ use Rattle.marking.proofs.mark.Symbol as mark-def
 use Rattle.marking.proofs.mark.Symbol.{name as #marking·mark}
 use Rattle.marking.proofs.mark.Met as mark-thm
 use Rattle.walks.proofs.Lent.{taken, shorter, shorter-mut, apart, together, cuts, glues}
-use Rattle.cases.proofs.Twelve.{Twelve, one, twelve, twelve-tells, Whole, First, Rest, room}
-use Rattle.cases.proofs.marks.mark_first.Key.{name as #cases·mark-first}
-use Rattle.cases.proofs.marks.mark_first as f
-use Rattle.cases.proofs.marks.mark_first.Statement as stated
-use Rattle.cases.proofs.marks.mark_first.Code as code
+use Rattle.marks.proofs.Twelve.{Twelve, one, twelve, twelve-tells, Whole, First, Rest, room}
+use Rattle.marks.proofs.lending.mark_first.Key.{name as #marks·mark-first}
+use Rattle.marks.proofs.lending.mark_first as f
+use Rattle.marks.proofs.lending.mark_first.Statement as stated
+use Rattle.marks.proofs.lending.mark_first.Code as code
 
 abbrev stayed : Stays (f.ended .signature .params) (f.ended .kept)
 stayed = (stay-dropped (shrSliceOf (0 ∷ []) tt (plain (λ _. u8))) yes, (gave-slice (0 ∷ []) tt (plain (λ _. u16)), (gave-slice (0 ∷ []) tt (plain (λ _. u16)), (gave-slice (0 ∷ []) tt (plain (λ _. u16)), (gave-slice (0 ∷ []) tt (plain (λ _. u16)), (gave-slice (0 ∷ []) tt (plain (λ _. u64)), (stay-dropped (shrSliceOf (0 ∷ []) tt (plain (λ _. u64))) yes, (stay-dropped (shrSliceOf (0 ∷ []) tt (plain (λ _. u64))) yes, (stay-dropped (arrayOf (plain (λ _. T.the-row)) 12) yes, (stay-dropped (plain (λ _. u64)) yes, tt))))))))))
@@ -265,6 +265,6 @@ pub mark-first-spec : {M : Type 1} → stated.statement M
 unfolding code.routine tablesOf
 mark-first-spec 𝓤 H 𝓜 𝓖 𝓡 =
     entered 𝓤 H (tripleOf 𝓤 H (𝓖 .A) f.signature (f.spec 𝓤 H (𝓖 .A) (𝓜 .mem) (𝓡 .run)))
-    (tables 𝓤 H 𝓜 𝓡 code.env .C) (tables 𝓤 H 𝓜 𝓡 code.env .Λ) #cases·mark-first code.function (code.unfolded 𝓤 H 𝓜 𝓡)
+    (tables 𝓤 H 𝓜 𝓡 code.env .C) (tables 𝓤 H 𝓜 𝓡 code.env .Λ) #marks·mark-first code.function (code.unfolded 𝓤 H 𝓜 𝓡)
     (f-meets 𝓤 H (𝓖 .A) (givenOf 𝓤 H 𝓜 𝓖) (𝓜 .mem) (𝓡 .run) (tablesOf 𝓤 H 𝓜 (tables 𝓤 H 𝓜 𝓡 code.env))
     (cited 𝓤 H (Mark 𝓤 H (𝓖 .A) (𝓜 .mem) (𝓡 .run)) 𝓜 𝓡 code.env #marking·mark mark-def.routine code.calls-marking·mark (mark-thm.met 𝓤 H 𝓜 𝓖 𝓡)))

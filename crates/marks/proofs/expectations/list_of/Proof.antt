@@ -2,14 +2,14 @@
 -- Assumes nothing.
 use Prim.Native.Nat.{_-_}
 use borrow.Author.Needs.{needs}
-use Rattle.cases.proofs.marks.list_of.Statement.{statement}
-use Rattle.cases.proofs.marks.list_of.Tie as tie
+use Rattle.marks.proofs.expectations.list_of.Statement.{statement}
+use Rattle.marks.proofs.expectations.list_of.Tie as tie
 
 abbrev Inv-loop : tie.InvT-loop
-Inv-loop bytes at list₀ k₀ list k = Unit
+Inv-loop bytes list₀ k₀ list k = Unit
 
 abbrev μ-loop : tie.MeasureT-loop
-μ-loop bytes at list₀ k₀ list k = 12 - k
+μ-loop bytes list₀ k₀ list k = 12 - k
 
 expectation-at-requires : tie.Need-expectation-at-requires Inv-loop μ-loop
 expectation-at-requires c κs = search needs
@@ -19,9 +19,6 @@ loop-holds c = search needs
 
 mul-expectation-at : tie.Need-mul-expectation-at Inv-loop μ-loop
 mul-expectation-at c = search needs
-
-add-expectation-at : tie.Need-add-expectation-at Inv-loop μ-loop
-add-expectation-at c = search needs
 
 expectation-at-requires-2 : tie.Need-expectation-at-requires-2 Inv-loop μ-loop
 expectation-at-requires-2 c κs = search needs
@@ -53,7 +50,6 @@ list-of-spec =
     expectation-at-requires
     loop-holds
     mul-expectation-at
-    add-expectation-at
     expectation-at-requires-2
     mul-list
     array-set-from-list

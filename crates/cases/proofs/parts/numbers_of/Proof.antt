@@ -2,8 +2,8 @@
 -- Assumes nothing.
 use Prim.Native.Nat.{_-_}
 use borrow.Author.Needs.{needs}
-use Rattle.cases.proofs.input.numbers_of.Statement.{statement}
-use Rattle.cases.proofs.input.numbers_of.Tie as tie
+use Rattle.cases.proofs.parts.numbers_of.Statement.{statement}
+use Rattle.cases.proofs.parts.numbers_of.Tie as tie
 
 abbrev Inv-loop : tie.InvT-loop
 Inv-loop bytes numbers₀ k₀ numbers k = Unit

@@ -1,0 +1,153 @@
+// A case: a circuit with its words and the expectations, and Mark on them.
+ghost use Prim.Native.Nat.{_≤_};
+use crate::expectations::list_of;
+use crate::expectations::show_marking;
+use crate::lending::mark_first;
+use marking::Expectation;
+use testbench::Words;
+use testbench::after_count;
+use testbench::before_count;
+use testbench::directory_length;
+use testbench::end_line;
+use testbench::fanins_length;
+use testbench::file_length;
+use testbench::inertial_length;
+use testbench::is_held;
+use testbench::limited;
+use testbench::read_all;
+use testbench::read_words;
+use testbench::rubbish_directory;
+use testbench::rubbish_fanins;
+use testbench::rubbish_frames;
+use testbench::rubbish_of;
+use testbench::rubbish_values;
+use testbench::show_sums;
+use testbench::times_length;
+use testbench::values_length;
+use testbench::wide;
+
+// False where the case is cut short or too large; then nothing is printed.
+pub(crate) fn circuit_case(expected: u8) -> bool {
+    let mut head = [0u8; 18];
+    if !read_all(&mut head) {
+        return false;
+    }
+    if !(expected <= 12 && is_held(head)) {
+        return false;
+    }
+    with_head(head, limited(wide(expected), 12))
+}
+
+fn with_head(head: [u8; 18], count: usize) -> bool
+    requires { ⌜ count ≤ 12 ⌝ }
+{
+    let mut file = [0u8; 70000];
+    with_file(head, count, &mut file[0..file_length(head)])
+}
+
+// Fills the file from the input, and takes the words behind it.
+fn with_file(head: [u8; 18], count: usize, file: &mut [u8]) -> bool
+    requires { ⌜ count ≤ 12 ⌝ }
+{
+    if !read_all(file) {
+        return false;
+    }
+    let before = read_words(before_count(head));
+    let after = read_words(after_count(head));
+    with_words(head, count, file, before, after)
+}
+
+fn with_words(head: [u8; 18], count: usize, file: &[u8], before: Words, after: Words) -> bool
+    requires { ⌜ count ≤ 12 ⌝ }
+{
+    if !(before.whole && after.whole) {
+        return false;
+    }
+    let first = before.list;
+    let second = after.list;
+    let mut records = [0u8; 96];
+    with_records(head, count, file, first, second, &mut records[0..8 * count])
+}
+
+// Fills the records from the input, and prints the line.
+fn with_records(
+    head: [u8; 18],
+    count: usize,
+    file: &[u8],
+    before: [u64; 80],
+    after: [u64; 80],
+    records: &mut [u8],
+) -> bool
+    requires { ⌜ count ≤ 12 ⌝ }
+{
+    if !read_all(records) {
+        return false;
+    }
+    mark_case(
+        head,
+        file,
+        &before[0..before_count(head)],
+        &after[0..after_count(head)],
+        list_of(records),
+        count,
+    );
+    end_line();
+    true
+}
+
+fn mark_case<'a>(
+    head: [u8; 18],
+    file: &'a [u8],
+    before: &'a [u64],
+    after: &'a [u64],
+    list: [Expectation; 12],
+    count: usize,
+)
+    requires { ⌜ count ≤ 12 ⌝ }
+{
+    let r = rubbish_of(head);
+    mark_in(
+        head,
+        file,
+        before,
+        after,
+        list,
+        count,
+        rubbish_directory(r),
+        rubbish_frames(r),
+        rubbish_frames(r),
+        rubbish_fanins(r),
+        rubbish_values(r),
+    );
+}
+
+// Here d, t, i, f and v are the areas: directory, times, inertial, fan-ins and values.
+fn mark_in<'a>(
+    head: [u8; 18],
+    file: &'a [u8],
+    before: &'a [u64],
+    after: &'a [u64],
+    list: [Expectation; 12],
+    count: usize,
+    mut d: [u16; 400],
+    mut t: [u16; 2100],
+    mut i: [u16; 2100],
+    mut f: [u16; 16400],
+    mut v: [u64; 2100],
+)
+    requires { ⌜ count ≤ 12 ⌝ }
+{
+    show_marking(mark_first(
+        file,
+        &mut d[0..directory_length(head)],
+        &mut t[0..times_length(head)],
+        &mut i[0..inertial_length(head)],
+        &mut f[0..fanins_length(head)],
+        &mut v[0..values_length(head)],
+        before,
+        after,
+        list,
+        count,
+    ));
+    show_sums(head, &d, &t, &i, &f, &v);
+}

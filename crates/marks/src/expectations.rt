@@ -1,0 +1,50 @@
+// The expectations of a case, and Mark's answer in print.
+ghost use Prim.Native.Nat.{_<_, _≤_};
+use libc::STDOUT_FILENO;
+use marking::Expectation;
+use marking::Marking;
+use method::Net;
+use method::Time;
+use testbench::show_number;
+use testbench::show_refused;
+
+// The records in the bytes; of those behind the end every number is 0.
+pub(crate) fn list_of(bytes: &[u8]) -> [Expectation; 12] {
+    let mut list = [expectation_at(bytes, 0); 12];
+    let mut k = 1;
+    while k < 12 {
+        list[k] = expectation_at(bytes, 8 * k);
+        k += 1;
+    }
+    list
+}
+
+fn expectation_at(bytes: &[u8], at: usize) -> Expectation
+    requires { ⌜ at ≤ 80000 ⌝ }
+{
+    Expectation {
+        net: Net(circuit::number_at(bytes, at)),
+        lane: low_byte(circuit::number_at(bytes, at + 2)),
+        from: Time(circuit::number_at(bytes, at + 3)),
+        to: Time(circuit::number_at(bytes, at + 5)),
+        level: low_byte(circuit::number_at(bytes, at + 7)),
+    }
+}
+
+fn low_byte(number: u16) -> u8 {
+    (number % 256) as u8
+}
+
+pub(crate) fn show_marking(answer: Marking) {
+    match answer {
+        Marking::AllMet => {
+            io::write_all(STDOUT_FILENO, b"all met");
+        }
+        Marking::Unmet(position, frame) => {
+            io::write_all(STDOUT_FILENO, b"unmet");
+            show_number(position as u64);
+            show_number(frame.0 as u64);
+        }
+        Marking::Refused(number) => show_refused(number),
+    }
+}

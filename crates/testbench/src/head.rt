@@ -1,0 +1,84 @@
+// The head of a case with a circuit. A number that its buffer does not hold is taken for the limit, so that nothing more has
+// to be shown of it; `is_held` says whether there is one.
+ghost use Prim.Native.Nat.{_<_, _≤_};
+use crate::input::limited;
+use crate::input::wide;
+
+// Whether the buffers hold the case.
+pub fn is_held(head: [u8; 18]) -> bool {
+    is_within(head, 4, 400)
+        && is_within(head, 6, 2100)
+        && is_within(head, 8, 2100)
+        && is_within(head, 10, 16400)
+        && is_within(head, 12, 2100)
+        && file_number(head) <= 70000
+        && head[16] <= 80
+        && head[17] <= 80
+}
+
+fn is_within(head: [u8; 18], at: usize, limit: usize) -> bool {
+    length_at(head, at) <= limit
+}
+
+// The two-byte number at a place, as a length.
+fn length_at(head: [u8; 18], at: usize) -> usize
+    ensures { λ r. ⌜ r < 65536 ⌝ }
+{
+    circuit::number_at(&head, at) as usize
+}
+
+fn file_number(head: [u8; 18]) -> usize {
+    length_at(head, 0) + 65536 * length_at(head, 2)
+}
+
+pub fn file_length(head: [u8; 18]) -> usize
+    ensures { λ r. ⌜ r ≤ 70000 ⌝ }
+{
+    limited(file_number(head), 70000)
+}
+
+pub fn directory_length(head: [u8; 18]) -> usize
+    ensures { λ r. ⌜ r ≤ 400 ⌝ }
+{
+    limited(length_at(head, 4), 400)
+}
+
+pub fn times_length(head: [u8; 18]) -> usize
+    ensures { λ r. ⌜ r ≤ 2100 ⌝ }
+{
+    limited(length_at(head, 6), 2100)
+}
+
+pub fn inertial_length(head: [u8; 18]) -> usize
+    ensures { λ r. ⌜ r ≤ 2100 ⌝ }
+{
+    limited(length_at(head, 8), 2100)
+}
+
+pub fn fanins_length(head: [u8; 18]) -> usize
+    ensures { λ r. ⌜ r ≤ 16400 ⌝ }
+{
+    limited(length_at(head, 10), 16400)
+}
+
+pub fn values_length(head: [u8; 18]) -> usize
+    ensures { λ r. ⌜ r ≤ 2100 ⌝ }
+{
+    limited(length_at(head, 12), 2100)
+}
+
+pub fn rubbish_of(head: [u8; 18]) -> u16 {
+    circuit::number_at(&head, 14)
+}
+
+pub fn before_count(head: [u8; 18]) -> usize
+    ensures { λ r. ⌜ r ≤ 80 ⌝ }
+{
+    limited(wide(head[16]), 80)
+}
+
+pub fn after_count(head: [u8; 18]) -> usize
+    ensures { λ r. ⌜ r ≤ 80 ⌝ }
+{
+    limited(wide(head[17]), 80)
+}

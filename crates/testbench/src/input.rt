@@ -1,0 +1,57 @@
+// What is read from the input.
+ghost use Prim.Native.Nat.{_<_, _≤_};
+use libc::STDIN_FILENO;
+
+// Fills the bytes from the input; false where it ends before.
+pub fn read_all(bytes: &mut [u8]) -> bool {
+    let wanted = bytes.len();
+    io::read_full(STDIN_FILENO, bytes) == wanted
+}
+
+// The words of a list, and whether the input had them all.
+pub struct Words {
+    pub whole: bool,
+    pub list: [u64; 80],
+}
+
+// Reads as many words, 80 at most; those behind them are 0.
+pub fn read_words(count: usize) -> Words {
+    let mut bytes = [0u8; 640];
+    words_in(&mut bytes[0..8 * limited(count, 80)])
+}
+
+// Fills the bytes from the input, and takes the words from them.
+fn words_in(bytes: &mut [u8]) -> Words {
+    let whole = read_all(bytes);
+    let list = words_of(bytes, 0);
+    Words {
+        whole: whole,
+        list: list,
+    }
+}
+
+// The words from a place on; those behind the end are 0.
+pub fn words_of(bytes: &[u8], at: usize) -> [u64; 80]
+    requires { ⌜ at ≤ 65535 ⌝ }
+{
+    let mut words = [0u64; 80];
+    let mut k = 0;
+    while k < 80 {
+        words[k] = waveform::word_at_byte(bytes, at + 8 * k);
+        k += 1;
+    }
+    words
+}
+
+pub fn wide(byte: u8) -> usize
+    ensures { λ r. ⌜ r < 256 ⌝ }
+{
+    byte as usize
+}
+
+// The number, or the limit where it is larger.
+pub fn limited(number: usize, limit: usize) -> usize
+    ensures { λ r. ⌜ r ≤ limit ⌝ }
+{
+    if limit < number { limit } else { number }
+}
