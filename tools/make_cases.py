@@ -253,11 +253,12 @@ def case_line(number, inputs, run, lengths, rubbish, net, time):
     untouched = filled(lengths, rubbish)
     if number:
         refused = f"refused {number}"
-        return [refused, with_sums(refused, untouched[:4]), str(number), with_sums(refused, untouched)]
+        return [refused, with_sums(refused, untouched[:4]), refused, with_sums(refused, untouched)]
+    read = f"accepted {inputs} {len(run.records)}"
     asked = asked_of(run, inputs, lengths)
     fault = asked or (0 if run.plan else 13)
     ran = with_sums(f"refused {fault}" if fault else run.plan[0], sums_after(run, fault, untouched))
-    line = [f"accepted {inputs} {len(run.records)}", plan_part(run, lengths, untouched), str(asked), ran]
+    line = [read, plan_part(run, lengths, untouched), f"refused {asked}" if asked else read, ran]
     return line if fault else line + [lanes_seen(run, net, time)]
 
 

@@ -2,7 +2,6 @@
 use crate::nets::Look;
 use crate::nets::read_look;
 use crate::nets::show_net;
-use crate::print::show_fault;
 use crate::print::show_planning;
 use crate::print::show_reading;
 use testbench::Words;
@@ -117,7 +116,7 @@ fn questions_case(head: [u8; 18], file: &[u8], before: &[u64], after: &[u64]) {
     let i = [0u16; 2100];
     let f = [0u16; 16400];
     let v = [0u64; 2100];
-    show_fault(engine::questions(
+    show_reading(engine::questions(
         file,
         &d[0..directory_length(head)],
         &t[0..times_length(head)],

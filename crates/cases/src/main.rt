@@ -7,7 +7,7 @@
 // - what the reader answers, `accepted` with I and G;
 // - what Plan answers, `planned` with the frame total, the fan-in total and the last potential time, and behind it a sum of
 //   each of its four areas as it leaves them;
-// - what Run's questions 1 to 11 answer, the number of the first "no" or 0;
+// - what Run's questions 1 to 11 answer, as for the reader;
 // - what Run answers, as for Plan, and a sum of each of the five areas as it leaves them;
 // - where there was a run, what is seen of the net in its parts of the times and the values as Run left them: Level at the
 //   time in all lanes, as 16 hexadecimal digits in which bit L is lane L, and a sum of Count in lanes 0 to 63.

@@ -31,8 +31,8 @@ fn look_in(bytes: &mut [u8]) -> Look {
     let whole = read_all(bytes);
     Look {
         whole: whole,
-        net: Net(circuit::number_at(bytes, 0)),
-        time: Time(circuit::number_at(bytes, 2)),
+        net: Net(numbers::number_at(bytes, 0)),
+        time: Time(numbers::number_at(bytes, 2)),
     }
 }
 

@@ -50,13 +50,13 @@ fn with_times(head: [u8; 5], bytes: &mut [u8]) -> bool {
 
 // The first two-byte numbers; those behind the end are 0.
 fn numbers_of(bytes: &[u8]) -> [u16; 80] {
-    let mut numbers = [0u16; 80];
+    let mut row = [0u16; 80];
     let mut k = 0;
     while k < 80 {
-        numbers[k] = circuit::number_at(bytes, 2 * k);
+        row[k] = numbers::number_at(bytes, 2 * k);
         k += 1;
     }
-    numbers
+    row
 }
 
 fn with_values(head: [u8; 5], times: [u16; 80], values: Words) -> bool {
@@ -80,5 +80,5 @@ fn show_line(head: [u8; 5], times: [u16; 80], values: [u64; 80]) {
 }
 
 fn time_of(head: [u8; 5]) -> Time {
-    Time(circuit::number_at(&head, 3))
+    Time(numbers::number_at(&head, 3))
 }

@@ -7,6 +7,7 @@ use planner::Planning;
 use testbench::show_number;
 use testbench::show_refused;
 
+// What the reader or Run's questions answer.
 pub(crate) fn show_reading(answer: Reading) {
     match answer {
         Reading::Accepted { inputs, gates } => {
@@ -34,11 +35,6 @@ pub(crate) fn show_planning(answer: Planning) -> bool {
             false
         }
     }
-}
-
-// What Run's questions answer: the number of the first "no", or 0.
-pub(crate) fn show_fault(number: u8) {
-    io::print_decimal(STDOUT_FILENO, number as u64);
 }
 
 pub(crate) fn show_seen(answer: Seen) {

@@ -23,11 +23,11 @@ fn expectation_at(bytes: &[u8], at: usize) -> Expectation
     requires { ⌜ at ≤ 80000 ⌝ }
 {
     Expectation {
-        net: Net(circuit::number_at(bytes, at)),
-        lane: low_byte(circuit::number_at(bytes, at + 2)),
-        from: Time(circuit::number_at(bytes, at + 3)),
-        to: Time(circuit::number_at(bytes, at + 5)),
-        level: low_byte(circuit::number_at(bytes, at + 7)),
+        net: Net(numbers::number_at(bytes, at)),
+        lane: low_byte(numbers::number_at(bytes, at + 2)),
+        from: Time(numbers::number_at(bytes, at + 3)),
+        to: Time(numbers::number_at(bytes, at + 5)),
+        level: low_byte(numbers::number_at(bytes, at + 7)),
     }
 }
 

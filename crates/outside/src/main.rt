@@ -12,18 +12,19 @@
 // lanes of what Count answers. A vector that is turned down has one line, `refused` and the number that the wave
 // program gives it (0 if it has under 2 or over 4,096 bytes or is shorter than its circuit), and the empty line. The
 // program stops at the end of the stream; where that lies within a vector it prints `cut`.
-ghost use Prim.Native.Nat.{_≤_};
+ghost use Prim.Native.Nat.{_<_, _≤_};
 
 mod nets;
 
 use circuit::Reading;
 use libc::STDIN_FILENO;
-use libc::STDOUT_FILENO;
 use nets::show_nets;
-use nets::wide;
 use numbers::number_at;
-use numbers::word_at_byte;
 use planner::Planning;
+use testbench::end_line;
+use testbench::show_cut;
+use testbench::show_refused;
+use testbench::words_of;
 
 // No input has as many vectors as there are turns: each takes two bytes or more.
 fn main() {
@@ -46,9 +47,15 @@ fn next_vector() -> bool {
     if got < 2 {
         return cut();
     }
-    let len = wide(number_at(&head, 0));
     let mut body = [0u8; 65535];
-    show_vector(&mut body[0..len])
+    show_vector(&mut body[0..wide(number_at(&head, 0))])
+}
+
+// A two-byte number as a length, with its bound.
+fn wide(x: u16) -> usize
+    ensures { λ r. ⌜ r < 65536 ⌝ }
+{
+    x as usize
 }
 
 // Fills the vector from the input and prints its lines.
@@ -57,12 +64,12 @@ fn show_vector(vector: &mut [u8]) -> bool {
         return cut();
     }
     take_apart(vector);
-    io::write_all(STDOUT_FILENO, b"\n");
+    end_line();
     true
 }
 
 fn cut() -> bool {
-    io::write_all(STDOUT_FILENO, b"cut\n");
+    show_cut();
     false
 }
 
@@ -70,14 +77,14 @@ fn cut() -> bool {
 fn take_apart(vector: &[u8]) {
     let len = vector.len();
     if len < 2 {
-        return show_refused(0);
+        return refuse(0);
     }
     if 4096 < len {
-        return show_refused(0);
+        return refuse(0);
     }
     let end = 2 + number_at(vector, 0) as usize;
     if len < end {
-        return show_refused(0);
+        return refuse(0);
     }
     show_circuit(&vector[2..end], &vector[end..len]);
 }
@@ -87,11 +94,11 @@ fn show_circuit(file: &[u8], words: &[u8]) {
     match circuit::read(file) {
         Reading::Accepted { inputs, gates } => {
             if words.len() != 16 * inputs as usize {
-                return show_refused(11);
+                return refuse(11);
             }
             with_words(file, words, inputs as usize, nets_of(inputs, gates));
         }
-        Reading::Refused(number) => show_refused(number),
+        Reading::Refused(number) => refuse(number),
     }
 }
 
@@ -106,40 +113,25 @@ fn nets_of(inputs: u16, gates: u16) -> u16 {
     inputs + gates
 }
 
-// Takes the before words and the after words from the bytes. An accepted circuit has at most 32 inputs; it is asked again
-// since the lists have 32 places.
+// Takes the before words and the after words from the bytes. An accepted circuit has at most 32 inputs; it is asked again,
+// so that the lists hold them whatever the reader promises.
 fn with_words(file: &[u8], words: &[u8], inputs: usize, nets: u16) {
     if 32 < inputs {
-        return show_refused(2);
+        return refuse(2);
     }
-    let mut before = [0u64; 32];
-    let mut after = [0u64; 32];
-    fill_words(&mut before, words, 0);
-    fill_words(&mut after, words, 8 * inputs);
-    with_lists(file, &before, &after, inputs, nets);
-}
-
-fn with_lists(file: &[u8], before: &[u64; 32], after: &[u64; 32], inputs: usize, nets: u16)
-    requires { ⌜ inputs ≤ 32 ⌝ }
-{
-    let b = &before[..];
-    let a = &after[..];
-    show_run(file, &b[0..inputs], &a[0..inputs], nets);
-}
-
-// Fills a list with the words from a place on. Past the end of the bytes they are 0.
-fn fill_words(list: &mut [u64; 32], bytes: &[u8], from: usize)
-    requires { ⌜ from ≤ 256 ⌝ }
-{
-    let mut k = 0;
-    while k < 32 {
-        list[k] = word_at_byte(bytes, from + 8 * k);
-        k += 1;
-    }
+    show_run(
+        file,
+        words_of(words, 0),
+        words_of(words, 8 * inputs),
+        inputs,
+        nets,
+    );
 }
 
 // Runs the circuit, and prints its nets or the number of the refusal.
-fn show_run(file: &[u8], before: &[u64], after: &[u64], nets: u16) {
+fn show_run(file: &[u8], before: [u64; 80], after: [u64; 80], inputs: usize, nets: u16)
+    requires { ⌜ inputs ≤ 32 ⌝ }
+{
     let mut directory = [0u16; 320];
     let mut times = [0u16; 2048];
     let mut inertial = [0u16; 2048];
@@ -152,17 +144,16 @@ fn show_run(file: &[u8], before: &[u64], after: &[u64], nets: u16) {
         &mut inertial,
         &mut fanins,
         &mut values,
-        before,
-        after,
+        &before[0..inputs],
+        &after[0..inputs],
     );
     match answer {
         Planning::Planned(_) => show_nets(&directory, &times, &values, nets),
-        Planning::Refused(number) => show_refused(number),
+        Planning::Refused(number) => refuse(number),
     }
 }
 
-fn show_refused(number: u8) {
-    io::write_all(STDOUT_FILENO, b"refused ");
-    io::print_decimal(STDOUT_FILENO, number as u64);
-    io::write_all(STDOUT_FILENO, b"\n");
+fn refuse(number: u8) {
+    show_refused(number);
+    end_line();
 }

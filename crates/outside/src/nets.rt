@@ -4,12 +4,10 @@ use libc::STDOUT_FILENO;
 use looks::Counted;
 use method::Net;
 use method::Time;
-
-// From a net's first frame to behind its last.
-struct Span {
-    first: usize,
-    end: usize,
-}
+use testbench::end_line;
+use testbench::show_number;
+use testbench::show_semicolon;
+use testbench::span_of;
 
 // Prints a line a net.
 pub(crate) fn show_nets(
@@ -26,40 +24,14 @@ pub(crate) fn show_nets(
 }
 
 fn show_net(directory: &[u16; 320], times: &[u16; 2048], values: &[u64; 2048], net: Net) {
-    let span = span_of(directory, net);
+    let span = span_of(&directory[..], net, 2048);
     let first = span.first;
     let end = span.end;
     io::print_decimal(STDOUT_FILENO, net.0 as u64);
     show_changes(times, values, first, end);
-    io::write_all(STDOUT_FILENO, b"; ");
+    show_semicolon();
     show_count(times, values, first, end);
-    io::write_all(STDOUT_FILENO, b"\n");
-}
-
-// A net's frames by its pair in the directory; none where the pair reaches out of the areas.
-fn span_of(directory: &[u16; 320], net: Net) -> Span
-    ensures { λ r. ⌜ (r .first ≤ r .end) × (r .end ≤ 2048) ⌝ }
-{
-    let pair = 2 * wide(net.0);
-    if 320 <= pair + 1 {
-        return Span { first: 0, end: 0 };
-    }
-    let first = wide(directory[pair]);
-    let frames = wide(directory[pair + 1]);
-    if 2048 < first + frames {
-        return Span { first: 0, end: 0 };
-    }
-    Span {
-        first: first,
-        end: first + frames,
-    }
-}
-
-// A two-byte number as a place or a length, with its bound.
-pub(crate) fn wide(x: u16) -> usize
-    ensures { λ r. ⌜ r < 65536 ⌝ }
-{
-    x as usize
+    end_line();
 }
 
 fn show_changes(times: &[u16; 2048], values: &[u64; 2048], first: usize, end: usize)
@@ -85,8 +57,7 @@ fn show_change(times: &[u16; 2048], values: &[u64; 2048], first: usize, k: usize
 }
 
 fn show_frame(time: Time, word: u64) {
-    io::write_all(STDOUT_FILENO, b" ");
-    io::print_decimal(STDOUT_FILENO, time.0 as u64);
+    show_number(time.0 as u64);
     io::write_all(STDOUT_FILENO, b"=");
     io::print_hex(STDOUT_FILENO, word, 16);
 }

@@ -24,7 +24,7 @@ fn is_within(head: [u8; 18], at: usize, limit: usize) -> bool {
 fn length_at(head: [u8; 18], at: usize) -> usize
     ensures { λ r. ⌜ r < 65536 ⌝ }
 {
-    circuit::number_at(&head, at) as usize
+    numbers::number_at(&head, at) as usize
 }
 
 fn file_number(head: [u8; 18]) -> usize {
@@ -68,7 +68,7 @@ pub fn values_length(head: [u8; 18]) -> usize
 }
 
 pub fn rubbish_of(head: [u8; 18]) -> u16 {
-    circuit::number_at(&head, 14)
+    numbers::number_at(&head, 14)
 }
 
 pub fn before_count(head: [u8; 18]) -> usize

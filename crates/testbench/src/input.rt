@@ -37,7 +37,7 @@ pub fn words_of(bytes: &[u8], at: usize) -> [u64; 80]
     let mut words = [0u64; 80];
     let mut k = 0;
     while k < 80 {
-        words[k] = waveform::word_at_byte(bytes, at + 8 * k);
+        words[k] = numbers::word_at_byte(bytes, at + 8 * k);
         k += 1;
     }
     words

@@ -20,11 +20,11 @@ mul-number-at c = search needs
 number-at-requires : tie.Need-number-at-requires Inv-loop μ-loop
 number-at-requires c κs = search needs
 
-mul-numbers : tie.Need-mul-numbers Inv-loop μ-loop
-mul-numbers c = search needs
+mul-row : tie.Need-mul-row Inv-loop μ-loop
+mul-row c = search needs
 
-array-write-numbers : tie.Need-array-write-numbers Inv-loop μ-loop
-array-write-numbers c = search needs
+array-write-row : tie.Need-array-write-row Inv-loop μ-loop
+array-write-row c = search needs
 
 add-k : tie.Need-add-k Inv-loop μ-loop
 add-k c = search needs
@@ -47,8 +47,8 @@ numbers-of-spec =
     loop-holds
     mul-number-at
     number-at-requires
-    mul-numbers
-    array-write-numbers
+    mul-row
+    array-write-row
     add-k
     loop-less
     loop-again
