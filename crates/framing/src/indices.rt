@@ -12,8 +12,8 @@ ghost use Rattle.circuit.specs.Limits.{mostDelay};
 ghost use Rattle.gathering.specs.Steps.{Fed, Span, spans};
 ghost use Rattle.framing.specs.Steps.{Shown, column};
 use circuit::GateRecord;
-use gathering::is_by;
 use gathering::times_of;
+use method::Frame;
 use method::Time;
 
 // Writes the inertial index of each of a gate's own times, from `first` on; `reach` is the inertial delay. The end of what
@@ -74,26 +74,26 @@ fn index_column(fanin: &[u16], delay: u16, own: &[u16], fanins: &mut [u16], at: 
     requires { ⌜ (width ≤ mostFanins) × (at + length (now own) * width < length (now fanins) + width) ⌝ }
     ensures { λ _. ⌜ now (fanins .exit) ≡ column (now (fanins .entry)) at width (map (faninIndex delay (now (fanin .entry))) (now (own .entry))) ⌝ }
 {
-    let mut found = 0;
+    let mut found = Frame(0);
     let mut place = at;
     let mut k = 0;
     while k < own.len() {
         found = frame_by(fanin, delay, found, Time(own[k]));
-        fanins[place] = found as u16;
+        fanins[place] = found.0;
         place += width;
         k += 1;
     }
 }
 
 // The fan-in's last frame that has begun at this time less the delay: `from`, or the one after it.
-fn frame_by(fanin: &[u16], delay: u16, from: usize, time: Time) -> usize
+fn frame_by(fanin: &[u16], delay: u16, from: Frame, time: Time) -> Frame
     requires { ⌜ Span (now fanin) × (delay ≤ mostDelay) ⌝ }
-    requires { ⌜ (from ≤ lastFrame (now fanin) (time .0 - delay)) × (lastFrame (now fanin) (time .0 - delay) ≤ from + 1) ⌝ }
-    ensures { λ r. ⌜ r ≡ lastFrame (now (fanin .entry)) (time .0 - delay) ⌝ }
+    requires { ⌜ (from .0 ≤ lastFrame (now fanin) (time .0 - delay)) × (lastFrame (now fanin) (time .0 - delay) ≤ from .0 + 1) ⌝ }
+    ensures { λ r. ⌜ r .0 ≡ lastFrame (now (fanin .entry)) (time .0 - delay) ⌝ }
 {
-    let next = from + 1;
+    let next = from.0 as usize + 1;
     if fanin.len() <= next {
         return from;
     }
-    from + is_by(Time(fanin[next] + delay), time)
+    Frame(from.0 + slices::not_above(fanin[next] + delay, time.0) as u16)
 }

@@ -84,8 +84,8 @@ fn merge_times(one: &[u16], other: &[u16], delay: u16, gathered: &mut [u16]) -> 
         let t = Time(other[j]);
         gathered[n] = earlier_of(s, t).0 + delay;
         n += 1;
-        i += is_by(s, t);
-        j += is_by(t, s);
+        i += slices::not_above(s.0, t.0);
+        j += slices::not_above(t.0, s.0);
     }
     add_rest(other, j, delay, gathered, n)
 }
@@ -172,11 +172,4 @@ fn earlier_of(a: Time, b: Time) -> Time
     ensures { λ r. ⌜ r .0 ≡ cond (leb (a .0) (b .0)) (a .0) (b .0) ⌝ }
 {
     if a.0 <= b.0 { a } else { b }
-}
-
-// 1 if a time is not after the limit, else 0: a number to add, since a jump here is often guessed wrong.
-pub fn is_by(time: Time, limit: Time) -> usize
-    ensures { λ r. ⌜ r ≡ cond (leb (time .0) (limit .0)) 1 0 ⌝ }
-{
-    if time.0 <= limit.0 { 1 } else { 0 }
 }

@@ -1,6 +1,8 @@
-// Clearing, storing and reading in a lent area, a search in a row of numbers, and a test that many questions ask.
+// Clearing, storing and reading in a lent area, a search in a row of numbers, and two tests.
 ghost use mathlib.Core.Path.{_≡_};
+ghost use mathlib.Core.Bool.{cond};
 ghost use Prim.Native.Nat.{_+_};
+ghost use lib.Dec.{leb};
 ghost use lib.ListN.{drop, getD};
 ghost use lib.Seq.{sets};
 ghost use Rattle.lists.specs.Areas.{cleared};
@@ -99,4 +101,11 @@ pub fn is_between(least: u16, most: u16, n: u16) -> bool
         return false;
     }
     n <= most
+}
+
+// 1 if n is not above the limit, else 0: a number to add, where a jump would often be guessed wrong.
+pub fn not_above(n: u16, limit: u16) -> usize
+    ensures { λ r. ⌜ r ≡ cond (leb n limit) 1 0 ⌝ }
+{
+    if n <= limit { 1 } else { 0 }
 }

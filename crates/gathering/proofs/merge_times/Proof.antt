@@ -88,23 +88,23 @@ slice-write-gathered-2 c = let s = c .before .before .before .before .before .be
 add-n : tie.Need-add-n Inv-loop μ-loop
 add-n c = let s = c .before .before .before .before .before .before .before .before .before .before in let l = c .before .before .before .before .before .before .loop in omega (arith, s .pre .0 .0 .few, s .pre .0 .1 .few, l .inv .4, l .inv .1, l .inv .3)
 
-is-by-requires : tie.Need-is-by-requires Inv-loop μ-loop
-is-by-requires c κs = search needs
+not-above-requires : tie.Need-not-above-requires Inv-loop μ-loop
+not-above-requires c κs = search needs
 
 add-i : tie.Need-add-i Inv-loop μ-loop
 add-i c =
     let s = c .before .before .before .before .before .before .before .before .before .before .before in
     let l = c .before .before .before .before .before .before .before .loop in
-    omega (arith, c .is-by .ensures, by-one (getD (now (s .args .one)) (l .i) 0) (getD (now (s .args .other)) (l .j) 0), s .pre .0 .0 .few, l .inv .1)
+    omega (arith, c .not-above .ensures, by-one (getD (now (s .args .one)) (l .i) 0) (getD (now (s .args .other)) (l .j) 0), s .pre .0 .0 .few, l .inv .1)
 
-is-by-requires-2 : tie.Need-is-by-requires-2 Inv-loop μ-loop
-is-by-requires-2 c κs = search needs
+not-above-requires-2 : tie.Need-not-above-requires-2 Inv-loop μ-loop
+not-above-requires-2 c κs = search needs
 
 add-j : tie.Need-add-j Inv-loop μ-loop
 add-j c =
     let s = c .before .before .before .before .before .before .before .before .before .before .before .before in
     let l = c .before .before .before .before .before .before .before .before .loop in
-    omega (arith, c .is-by2 .ensures, by-one (getD (now (s .args .other)) (l .j) 0) (getD (now (s .args .one)) (l .i) 0), s .pre .0 .1 .few, l .inv .3)
+    omega (arith, c .not-above2 .ensures, by-one (getD (now (s .args .other)) (l .j) 0) (getD (now (s .args .one)) (l .i) 0), s .pre .0 .1 .few, l .inv .3)
 
 loop-less : tie.Need-loop-less Inv-loop μ-loop
 loop-less c =
@@ -112,7 +112,7 @@ loop-less c =
     let l = c .before .before .before .before .before .before .before .before .loop in
     let a = getD (now (s .args .one)) (l .i) 0 in
     let b = getD (now (s .args .other)) (l .j) 0 in
-    omega (arith, c .before .is-by .ensures, c .is-by2 .ensures, by-one a b, by-one b a, by-some a b, c .before .before .before .before .before .before .before .loop-test .taken, c .before .before .before .before .before .before .if1 .left)
+    omega (arith, c .before .not-above .ensures, c .not-above2 .ensures, by-one a b, by-one b a, by-some a b, c .before .before .before .before .before .before .before .loop-test .taken, c .before .before .before .before .before .before .if1 .left)
 
 loop-again : tie.Need-loop-again Inv-loop μ-loop
 loop-again c =
@@ -120,8 +120,8 @@ loop-again c =
     let l = c .before .before .before .before .before .before .before .before .loop in
     let a = getD (now (s .args .one)) (l .i) 0 in
     let b = getD (now (s .args .other)) (l .j) 0 in
-    let p = c .before .is-by .ensures in
-    let q = c .is-by2 .ensures in (
+    let p = c .before .not-above .ensures in
+    let q = c .not-above2 .ensures in (
       omega (arith, l .inv .0),
       omega (arith, p, by-one a b, c .before .before .before .before .before .before .before .loop-test .taken),
       omega (arith, l .inv .2),
@@ -167,9 +167,9 @@ merge-times-spec =
     mul-gathered-3
     slice-write-gathered-2
     add-n
-    is-by-requires
+    not-above-requires
     add-i
-    is-by-requires-2
+    not-above-requires-2
     add-j
     loop-less
     loop-again

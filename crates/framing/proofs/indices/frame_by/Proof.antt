@@ -15,11 +15,14 @@ use Rattle.framing.proofs.indices.frame_by.Tie as tie
 start : (s : tie.Start) → Starts (now (s .args .fanin))
 start s = test-starts (now (s .args .fanin)) (s .pre .0 .0 .starts)
 
+cast-next : tie.Need-cast-next
+cast-next c = search needs
+
 add-next : tie.Need-add-next
-add-next c = let s = c .before in omega (arith, last-within (now (s .args .fanin)) (s .args .time .0 - s .args .delay) (start s), s .pre .0 .0 .few)
+add-next c = search needs
 
 returns : tie.Need-returns
-returns c = let s = c .before .before in stays-last (now (s .args .fanin)) (start s) (s .args .from) (s .args .delay) (s .args .time .0) (s .pre .1 .0) (s .pre .1 .1) (c .if1 .taken)
+returns c = let s = c .before .before .before in stays-last (now (s .args .fanin)) (start s) (s .args .from .0) (s .args .delay) (s .args .time .0) (s .pre .1 .0) (s .pre .1 .1) (c .if1 .taken)
 
 mul-t8 : tie.Need-mul-t8
 mul-t8 c = search needs
@@ -28,31 +31,36 @@ shared-slice-read-t10 : tie.Need-shared-slice-read-t10
 shared-slice-read-t10 c = search needs
 
 add-t11 : tie.Need-add-t11
-add-t11 c = let s = c .before .before .before in omega (arith, s .pre .0 .0 .early (s .args .from + 1))
+add-t11 c = let s = c .before .before .before .before in omega (arith, s .pre .0 .0 .early (s .args .from .0 + 1))
 
-is-by-requires : tie.Need-is-by-requires
-is-by-requires c κs = search needs
+not-above-requires : tie.Need-not-above-requires
+not-above-requires c κs = search needs
 
-found : (c : tie.After-is-by) → let s = c .before .before .before .before in s .args .from + c .is-by .result ≡ lastFrame (now (s .args .fanin)) (s .args .time .0 - s .args .delay)
+found : (c : tie.After-not-above) → let s = c .before .before .before .before .before in s .args .from .0 + c .not-above .result ≡ lastFrame (now (s .args .fanin)) (s .args .time .0 - s .args .delay)
 found c =
-    let s = c .before .before .before .before in
-    rw (c .is-by .ensures) (steps (now (s .args .fanin)) (start s) (s .args .from) (s .args .delay) (s .args .time .0) (s .pre .1 .0) (s .pre .1 .1) (c .before .before .if1 .left))
+    let s = c .before .before .before .before .before in
+    rw (c .not-above .ensures) (steps (now (s .args .fanin)) (start s) (s .args .from .0) (s .args .delay) (s .args .time .0) (s .pre .1 .0) (s .pre .1 .1) (c .before .before .if1 .left))
 
-add-result : tie.Need-add-result
-add-result c = let s = c .before .before .before .before in omega (arith, found c, last-within (now (s .args .fanin)) (s .args .time .0 - s .args .delay) (start s), s .pre .0 .0 .few)
+cast-t13 : tie.Need-cast-t13
+cast-t13 c = let s = c .before .before .before .before .before in omega (arith, found c, last-within (now (s .args .fanin)) (s .args .time .0 - s .args .delay) (start s), s .pre .0 .0 .few)
+
+add-t14 : tie.Need-add-t14
+add-t14 c = let s = c .before .before .before .before .before .before in omega (arith, found (c .before), last-within (now (s .args .fanin)) (s .args .time .0 - s .args .delay) (start s), s .pre .0 .0 .few)
 
 returns-2 : tie.Need-returns-2
-returns-2 c = found c
+returns-2 c = found (c .before)
 
 pub frame-by-spec : {M : Type 1} → statement M
 frame-by-spec =
     tie.close
     (tie.spec
+    cast-next
     add-next
     returns
     mul-t8
     shared-slice-read-t10
     add-t11
-    is-by-requires
-    add-result
+    not-above-requires
+    cast-t13
+    add-t14
     returns-2)

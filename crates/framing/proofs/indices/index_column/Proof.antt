@@ -10,7 +10,6 @@ use denote.Ref.{now}
 use lib.ListN.{length, getD, drop, length-set}
 use Rattle.method.specs.Indices.{lastFrame, faninIndex}
 use Rattle.method.proofs.Rising.{Starts, test-starts}
-use Rattle.method.proofs.Lasting.{last-within}
 use Rattle.framing.specs.Steps.{column}
 use Rattle.framing.proofs.Indexing.{index-at, walk-start, walk-low, walk-high}
 use Rattle.framing.proofs.Columns.{column-on, column-end, place-in, place-on}
@@ -21,7 +20,7 @@ use Rattle.framing.proofs.indices.index_column.Tie as tie
 abbrev Inv-loop : tie.InvT-loop
 Inv-loop fanin delay own fanins₀ at width found₀ place₀ k₀ fanins found place k =
     (place ≡ at + k * width) × (length fanins ≡ length fanins₀)
-    × (k < length own → found ≤ lastFrame fanin (getD own k 0 - delay)) × (k < length own → lastFrame fanin (getD own k 0 - delay) ≤ found + 1)
+    × (k < length own → found .0 ≤ lastFrame fanin (getD own k 0 - delay)) × (k < length own → lastFrame fanin (getD own k 0 - delay) ≤ found .0 + 1)
     × (column fanins₀ at width (map (faninIndex delay fanin) own) ≡ column fanins place width (map (faninIndex delay fanin) (drop k own)))
 
 abbrev μ-loop : tie.MeasureT-loop
@@ -36,11 +35,11 @@ loop-holds c =
     let z = walk-start (s .args .delay) (now (s .args .fanin)) (now (s .args .own)) (start s) (s .pre .1 .0 .0 .starts) in
     (rw (zero-mul, add-zero), refl, (λ h. omega arith), (λ h. omega (arith, z)), refl)
 
-mul-fanins : tie.Need-mul-fanins Inv-loop μ-loop
-mul-fanins c = search needs
+mul-t10 : tie.Need-mul-t10 Inv-loop μ-loop
+mul-t10 c = search needs
 
-shared-slice-read-fanins : tie.Need-shared-slice-read-fanins Inv-loop μ-loop
-shared-slice-read-fanins c = search needs
+shared-slice-read-t13 : tie.Need-shared-slice-read-t13 Inv-loop μ-loop
+shared-slice-read-t13 c = search needs
 
 frame-by-requires : tie.Need-frame-by-requires Inv-loop μ-loop
 frame-by-requires c κs =
@@ -54,13 +53,8 @@ in-area c =
     let s = c .before .before .before .before .before .before .before in
     place-in _ _ _ _ _ _ (c .before .before .before .loop .inv .0) (s .pre .1 .1 .1) (c .before .before .loop-test .taken)
 
-cast-fanins : tie.Need-cast-fanins Inv-loop μ-loop
-cast-fanins c =
-    let s = c .before .before .before .before .before .before .before in
-    omega (arith, c .frame-by .ensures, last-within (now (s .args .fanin)) (getD (now (s .args .own)) (c .before .before .before .loop .k) 0 - s .args .delay) (start s), s .pre .0 .0 .few)
-
-mul-fanins-2 : tie.Need-mul-fanins-2 Inv-loop μ-loop
-mul-fanins-2 c = omega (arith, in-area c)
+mul-fanins : tie.Need-mul-fanins Inv-loop μ-loop
+mul-fanins c = omega (arith, in-area c)
 
 slice-write-fanins : tie.Need-slice-write-fanins Inv-loop μ-loop
 slice-write-fanins c = omega (arith, in-area c, c .before .before .before .loop .inv .1)
@@ -100,11 +94,10 @@ index-column-spec =
     Inv-loop
     μ-loop
     loop-holds
-    mul-fanins
-    shared-slice-read-fanins
+    mul-t10
+    shared-slice-read-t13
     frame-by-requires
-    cast-fanins
-    mul-fanins-2
+    mul-fanins
     slice-write-fanins
     add-place
     add-k
