@@ -95,5 +95,6 @@ fn frame_by(fanin: &[u16], delay: u16, from: Frame, time: Time) -> Frame
     if fanin.len() <= next {
         return from;
     }
-    Frame(from.0 + slices::not_above(fanin[next] + delay, time.0) as u16)
+    let begun = slices::not_above(fanin[next] + delay, time.0);
+    Frame(from.0 + begun as u16)
 }

@@ -24,14 +24,14 @@ add-next c = search needs
 returns : tie.Need-returns
 returns c = let s = c .before .before .before in stays-last (now (s .args .fanin)) (start s) (s .args .from .0) (s .args .delay) (s .args .time .0) (s .pre .1 .0) (s .pre .1 .1) (c .if1 .taken)
 
-mul-t8 : tie.Need-mul-t8
-mul-t8 c = search needs
+mul-not-above : tie.Need-mul-not-above
+mul-not-above c = search needs
 
-shared-slice-read-t10 : tie.Need-shared-slice-read-t10
-shared-slice-read-t10 c = search needs
+shared-slice-read-not-above : tie.Need-shared-slice-read-not-above
+shared-slice-read-not-above c = search needs
 
-add-t11 : tie.Need-add-t11
-add-t11 c = let s = c .before .before .before .before in omega (arith, s .pre .0 .0 .early (s .args .from .0 + 1))
+add-not-above : tie.Need-add-not-above
+add-not-above c = let s = c .before .before .before .before in omega (arith, s .pre .0 .0 .early (s .args .from .0 + 1))
 
 not-above-requires : tie.Need-not-above-requires
 not-above-requires c κs = search needs
@@ -41,11 +41,11 @@ found c =
     let s = c .before .before .before .before .before in
     rw (c .not-above .ensures) (steps (now (s .args .fanin)) (start s) (s .args .from .0) (s .args .delay) (s .args .time .0) (s .pre .1 .0) (s .pre .1 .1) (c .before .before .if1 .left))
 
-cast-t13 : tie.Need-cast-t13
-cast-t13 c = let s = c .before .before .before .before .before in omega (arith, found c, last-within (now (s .args .fanin)) (s .args .time .0 - s .args .delay) (start s), s .pre .0 .0 .few)
+cast-t10 : tie.Need-cast-t10
+cast-t10 c = let s = c .before .before .before .before .before in omega (arith, found c, last-within (now (s .args .fanin)) (s .args .time .0 - s .args .delay) (start s), s .pre .0 .0 .few)
 
-add-t14 : tie.Need-add-t14
-add-t14 c = let s = c .before .before .before .before .before .before in omega (arith, found (c .before), last-within (now (s .args .fanin)) (s .args .time .0 - s .args .delay) (start s), s .pre .0 .0 .few)
+add-t11 : tie.Need-add-t11
+add-t11 c = let s = c .before .before .before .before .before .before in omega (arith, found (c .before), last-within (now (s .args .fanin)) (s .args .time .0 - s .args .delay) (start s), s .pre .0 .0 .few)
 
 returns-2 : tie.Need-returns-2
 returns-2 c = found (c .before)
@@ -57,10 +57,10 @@ frame-by-spec =
     cast-next
     add-next
     returns
-    mul-t8
-    shared-slice-read-t10
-    add-t11
+    mul-not-above
+    shared-slice-read-not-above
+    add-not-above
     not-above-requires
-    cast-t13
-    add-t14
+    cast-t10
+    add-t11
     returns-2)
