@@ -285,7 +285,7 @@ def add(file, number, inputs, run, lengths=RIGHT, rubbish=None, net=0, time=0, e
     marks.append((bytes([len(expectations)]) + head + data + records,
                   mark_line(number, inputs, run, lengths, rubbish, expectations)))
     if not marked_only:
-        cases.append((b"c" + head + two(net) + two(time) + data,
+        cases.append((b"c" + two(net) + two(time) + head + data,
                       "; ".join(case_line(number, inputs, run, lengths, rubbish, net, time))))
 
 
@@ -729,7 +729,7 @@ def write(program, made, too_large):
 
 
 lengths = b"".join(map(two, RIGHT))
-write("cases", cases, b"c" + (70001).to_bytes(4, "little") + lengths + bytes(8))  # a file of 70,001 bytes
+write("cases", cases, b"c" + bytes(4) + (70001).to_bytes(4, "little") + lengths + bytes(4))  # a file of 70,001 bytes
 write("marks", marks, b"\x0d" + (4).to_bytes(4, "little") + lengths + bytes(4))  # 13 expectations
 
 lines = [line for data, line in cases if data[:1] == b"c"]

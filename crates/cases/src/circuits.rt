@@ -4,7 +4,6 @@ use crate::nets::read_look;
 use crate::nets::show_net;
 use crate::print::show_planning;
 use crate::print::show_reading;
-use testbench::Words;
 use testbench::after_count;
 use testbench::before_count;
 use testbench::directory_length;
@@ -12,9 +11,7 @@ use testbench::end_line;
 use testbench::fanins_length;
 use testbench::file_length;
 use testbench::inertial_length;
-use testbench::is_held;
-use testbench::read_all;
-use testbench::read_words;
+use testbench::read_case;
 use testbench::rubbish_directory;
 use testbench::rubbish_fanins;
 use testbench::rubbish_frames;
@@ -28,52 +25,30 @@ use testbench::values_length;
 
 // False where the case is cut short or too large; then nothing is printed.
 pub(crate) fn circuit_case() -> bool {
-    let mut head = [0u8; 18];
-    if !read_all(&mut head) {
-        return false;
-    }
     let look = read_look();
-    if !(look.whole && is_held(head)) {
+    let case = read_case();
+    if !(look.whole && case.whole) {
         return false;
     }
-    with_head(head, look)
-}
-
-fn with_head(head: [u8; 18], look: Look) -> bool {
-    let mut file = [0u8; 70000];
-    with_file(head, look, &mut file[0..file_length(head)])
-}
-
-// Fills the file from the input, and takes the words behind it.
-fn with_file(head: [u8; 18], look: Look, file: &mut [u8]) -> bool {
-    if !read_all(file) {
-        return false;
-    }
-    let before = read_words(before_count(head));
-    let after = read_words(after_count(head));
-    with_words(head, look, file, before, after)
-}
-
-fn with_words(head: [u8; 18], look: Look, file: &[u8], before: Words, after: Words) -> bool {
-    if !(before.whole && after.whole) {
-        return false;
-    }
-    let first = before.list;
-    let second = after.list;
-    show_line(head, look, file, first, second);
+    let head = case.head;
+    let file = case.file;
+    let before = case.before;
+    let after = case.after;
+    show_line(head, look, file, before, after);
     true
 }
 
-fn show_line(head: [u8; 18], look: Look, file: &[u8], before: [u64; 80], after: [u64; 80]) {
+fn show_line(head: [u8; 18], look: Look, file: [u8; 70000], before: [u64; 80], after: [u64; 80]) {
+    let f = &file[0..file_length(head)];
     let b = &before[0..before_count(head)];
     let a = &after[0..after_count(head)];
-    show_reading(circuit::read(file));
+    show_reading(circuit::read(f));
     show_semicolon();
-    plan_case(head, file);
+    plan_case(head, f);
     show_semicolon();
-    questions_case(head, file, b, a);
+    questions_case(head, f, b, a);
     show_semicolon();
-    run_case(head, look, file, b, a);
+    run_case(head, look, f, b, a);
     end_line();
 }
 

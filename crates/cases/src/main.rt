@@ -1,9 +1,8 @@
 // The test program. Standard input is a stream of cases of any length, standard output has a line a case. Numbers of more
 // than one byte are little-endian. The first byte of a case says what it is.
 //
-// `c`, the calls on a circuit. First the head of a case with a circuit, which the top of crates/testbench/src/lib.rt
-// describes, a net (2) and a time (2). Then the file, the before words and the after words (8 each). The line has, with a
-// semicolon between them:
+// `c`, the calls on a circuit. First a net (2) and a time (2), then a circuit with its words, as the top of
+// crates/testbench/src/lib.rt describes it. The line has, with a semicolon between them:
 // - what the reader answers, `accepted` with I and G;
 // - what Plan answers, `planned` with the frame total, the fan-in total and the last potential time, and behind it a sum of
 //   each of its four areas as it leaves them;
@@ -12,7 +11,7 @@
 // - where there was a run, what is seen of the net in its parts of the times and the values as Run left them: Level at the
 //   time in all lanes, as 16 hexadecimal digits in which bit L is lane L, and a sum of Count in lanes 0 to 63.
 // In each place `refused` with its number stands for a refusal. How areas are filled before a call and how numbers are summed
-// stands at the same place as the head.
+// stands in the same place.
 //
 // `l`, a look at parts that no run made. First 5 bytes: how many times and how many values (1 each), a lane (1) and a time
 // (2). Then the times (2 each) and the values (8 each). The line has what Level and what Count answer: a level and a number,

@@ -4,7 +4,7 @@ use crate::expectations::list_of;
 use crate::expectations::show_marking;
 use crate::lending::mark_first;
 use marking::Expectation;
-use testbench::Words;
+use testbench::Case;
 use testbench::after_count;
 use testbench::before_count;
 use testbench::directory_length;
@@ -12,10 +12,9 @@ use testbench::end_line;
 use testbench::fanins_length;
 use testbench::file_length;
 use testbench::inertial_length;
-use testbench::is_held;
 use testbench::limited;
 use testbench::read_all;
-use testbench::read_words;
+use testbench::read_case;
 use testbench::rubbish_directory;
 use testbench::rubbish_fanins;
 use testbench::rubbish_frames;
@@ -28,71 +27,54 @@ use testbench::wide;
 
 // False where the case is cut short or too large; then nothing is printed.
 pub(crate) fn circuit_case(expected: u8) -> bool {
-    let mut head = [0u8; 18];
-    if !read_all(&mut head) {
+    if 12 < expected {
         return false;
     }
-    if !(expected <= 12 && is_held(head)) {
+    let case = read_case();
+    if !case.whole {
         return false;
     }
-    with_head(head, limited(wide(expected), 12))
-}
-
-fn with_head(head: [u8; 18], count: usize) -> bool
-    requires { ⌜ count ≤ 12 ⌝ }
-{
-    let mut file = [0u8; 70000];
-    with_file(head, count, &mut file[0..file_length(head)])
-}
-
-// Fills the file from the input, and takes the words behind it.
-fn with_file(head: [u8; 18], count: usize, file: &mut [u8]) -> bool
-    requires { ⌜ count ≤ 12 ⌝ }
-{
-    if !read_all(file) {
-        return false;
-    }
-    let before = read_words(before_count(head));
-    let after = read_words(after_count(head));
-    with_words(head, count, file, before, after)
-}
-
-fn with_words(head: [u8; 18], count: usize, file: &[u8], before: Words, after: Words) -> bool
-    requires { ⌜ count ≤ 12 ⌝ }
-{
-    if !(before.whole && after.whole) {
-        return false;
-    }
-    let first = before.list;
-    let second = after.list;
     let mut records = [0u8; 96];
-    with_records(head, count, file, first, second, &mut records[0..8 * count])
+    with_records(case, &mut records[0..8 * limited(wide(expected), 12)])
 }
 
 // Fills the records from the input, and prints the line.
-fn with_records(
-    head: [u8; 18],
-    count: usize,
-    file: &[u8],
-    before: [u64; 80],
-    after: [u64; 80],
-    records: &mut [u8],
-) -> bool
-    requires { ⌜ count ≤ 12 ⌝ }
-{
+fn with_records(case: Case, records: &mut [u8]) -> bool {
     if !read_all(records) {
         return false;
     }
-    mark_case(
+    let head = case.head;
+    let file = case.file;
+    let before = case.before;
+    let after = case.after;
+    show_line(
         head,
         file,
+        before,
+        after,
+        list_of(records),
+        records.len() / 8,
+    );
+    true
+}
+
+fn show_line(
+    head: [u8; 18],
+    file: [u8; 70000],
+    before: [u64; 80],
+    after: [u64; 80],
+    list: [Expectation; 12],
+    count: usize,
+) {
+    mark_case(
+        head,
+        &file[0..file_length(head)],
         &before[0..before_count(head)],
         &after[0..after_count(head)],
-        list_of(records),
-        count,
+        list,
+        limited(count, 12),
     );
     end_line();
-    true
 }
 
 fn mark_case<'a>(

@@ -1,4 +1,4 @@
-// The head of a case with a circuit. A number that its buffer does not hold is taken for the limit, so that nothing more has
+// The head of a circuit with its words. A number that its buffer does not hold is taken for the limit, so that nothing more has
 // to be shown of it; `is_held` says whether there is one.
 ghost use Prim.Native.Nat.{_<_, _≤_};
 use crate::input::limited;

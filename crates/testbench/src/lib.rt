@@ -1,15 +1,16 @@
 // What the test programs share: what they read from their input, the areas that a call is lent, and answers in print. It
 // serves them and is no part of the product. Its functions promise what their callers need to be proved safe, and no more.
 //
-// A case with a circuit starts with a head of 18 bytes: the file's length (4), the lengths of directory, times, inertial,
-// fan-ins and values (2 each), a rubbish number (2), how many before words and how many after words (1 each). Numbers of
-// more than one byte are little-endian. The buffers hold a file of 70,000 bytes, areas of 400, 2,100, 2,100, 16,400 and
-// 2,100 entries, and 80 words in a list.
+// A circuit with its words has a head of 18 bytes: the file's length (4), the lengths of directory, times, inertial, fan-ins
+// and values (2 each), a rubbish number (2), how many before words and how many after words (1 each). The file, the before
+// words and the after words (8 each) follow. Numbers of more than one byte are little-endian. The buffers hold a file of
+// 70,000 bytes, areas of 400, 2,100, 2,100, 16,400 and 2,100 entries, and 80 words in a list.
 //
 // Before a call every area is filled with rubbish: entry k is (rubbish + 257 * k) % 65536, and word k of the values has that
 // number in each of its four quarters. A sum of numbers starts at 0, and each number x takes it to (17 * sum + x + 1) %
 // 65521. Of the values it takes the four quarters of each word, the lowest first.
 mod areas;
+mod circuits;
 mod head;
 mod input;
 mod print;
@@ -22,13 +23,14 @@ pub use areas::rubbish_values;
 pub use areas::show_plan_sums;
 pub use areas::show_sums;
 pub use areas::with_number;
+pub use circuits::Case;
+pub use circuits::read_case;
 pub use head::after_count;
 pub use head::before_count;
 pub use head::directory_length;
 pub use head::fanins_length;
 pub use head::file_length;
 pub use head::inertial_length;
-pub use head::is_held;
 pub use head::rubbish_of;
 pub use head::times_length;
 pub use head::values_length;
