@@ -24,15 +24,11 @@ pub(crate) struct Look {
 
 pub(crate) fn read_look() -> Look {
     let mut bytes = [0u8; 4];
-    look_in(&mut bytes)
-}
-
-fn look_in(bytes: &mut [u8]) -> Look {
-    let whole = read_all(bytes);
+    let whole = read_all(&mut bytes);
     Look {
         whole: whole,
-        net: Net(numbers::number_at(bytes, 0)),
-        time: Time(numbers::number_at(bytes, 2)),
+        net: Net(numbers::number_at(&bytes, 0)),
+        time: Time(numbers::number_at(&bytes, 2)),
     }
 }
 

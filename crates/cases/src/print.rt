@@ -40,14 +40,10 @@ pub(crate) fn show_planning(answer: Planning) -> bool {
 pub(crate) fn show_seen(answer: Seen) {
     match answer {
         Seen::Level(level) => {
-            show_bit(level);
+            io::print_decimal(STDOUT_FILENO, bit(level));
         }
         Seen::Refused(number) => show_refused(number),
     }
-}
-
-fn show_bit(level: bool) {
-    io::print_decimal(STDOUT_FILENO, bit(level));
 }
 
 pub(crate) fn bit(level: bool) -> u64 {
