@@ -1,9 +1,9 @@
 -- `marking::mark` meets its contract: a walk of its MIR, by hand. `nets_needed` only reads, and answers how many nets the
--- list needs. `run_asked` is lent directory, times and values again for a lifetime of the call (`Again.antt`), and they
+-- list needs. `run_asked` is lent directory, times and values again for a lifetime of the call (`Again` of `walks`), and they
 -- come back; inertial and fanins it is given for good (`gave-slice`). Then the three areas are shared for all the time
--- that they have left (`Shown.antt`), before the `if`: so on both sides of it each area ends as `run_asked` left it. A
+-- that they have left (`Shown` of `walks`), before the `if`: so on both sides of it each area ends as `run_asked` left it. A
 -- "no" is returned; where there is none, `first_unmet` reads the areas. That both are what Mark answers is said by
--- `Marked.antt`.
+-- `Marked`.
 -- The one lifetime's token is cut in four: a share stays in the open borrow of each area that is lent again, and one
 -- goes to `run_asked`. Of the shared slices nothing is had at exit (`stay-dropped`); the list goes to two calls, and what
 -- it owns is Copy. All that the proof knows of the three callees is that each meets its contract.
