@@ -19,9 +19,9 @@ use Rattle.engine.specs.Questions.{areasSuit}
 use Rattle.engine.specs.After as engine
 use Rattle.engine.proofs.Asking.{passed-again}
 use Rattle.engine.proofs.Accepted.{parts, none}
-use Rattle.marking.specs.declared.Expectation.{Expectation}
-use Rattle.marking.specs.Questions.{listSuits}
-use Rattle.marking.specs.Verdict.{Verdict, netTimes, laneLevels, verdict}
+use Rattle.expectations.specs.declared.Expectation.{Expectation}
+use Rattle.expectations.specs.Suits.{listSuits}
+use Rattle.expectations.specs.Verdict.{Verdict, netTimes, laneLevels, verdict}
 use Rattle.marking.specs.Mark.{markOf}
 use Rattle.marking.proofs.Laddered.{ladder-none}
 use Rattle.marking.proofs.Marked.{mark-accepts}

@@ -27,9 +27,10 @@ use Rattle.engine.specs.After.{After, Alike}
 use Rattle.engine.proofs.Answering.{all-numbered}
 use Rattle.looks.proofs.Seeing.{look-numbered}
 use Rattle.engine.proofs.After.{after-runs, plan-left}
-use Rattle.marking.specs.declared.Expectation.{Expectation}
+use Rattle.expectations.specs.declared.Expectation.{Expectation}
+use Rattle.expectations.specs.Suits.{listSuits}
 use Rattle.marking.specs.Questions as marking
-use Rattle.marking.specs.Verdict.{place, verdict}
+use Rattle.expectations.specs.Verdict.{place, verdict}
 use Rattle.marking.specs.Mark.{markOf}
 use Rattle.marking.proofs.Laddered.{ladder-numbered, ladder-run}
 use Rattle.demands.specs.Answers.{SameRefusal}
@@ -43,7 +44,7 @@ use Rattle.demands.proofs.Alike.{marked-alike}
 -- ---- demand 1
 
 -- Mark's first "no" is then Run's
-mark-as-run : (file before after : List ℕ) (a : Areas) (list : List Expectation) → marking.listSuits (netCount (circuitOf file)) list ≡ true → markOf file before after a list .left ≡ runOf file before after a .left
+mark-as-run : (file before after : List ℕ) (a : Areas) (list : List Expectation) → listSuits (netCount (circuitOf file)) list ≡ true → markOf file before after a list .left ≡ runOf file before after a .left
 unfolding markOf runOf
 mark-as-run file before after a list y =
     ap (λ (n : ℕ). runLeft n (circuitOf file) before after a) (ladder-run file a (length before) (length after) _ y)

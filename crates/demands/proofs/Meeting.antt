@@ -21,11 +21,11 @@ use Rattle.engine.specs.Areas.{Areas}
 use Rattle.method.specs.Values.{netCount}
 use Rattle.engine.specs.After.{After, timesOf, levelIn}
 use Rattle.engine.proofs.After.{after-runs}
-use Rattle.marking.specs.declared.Expectation.{Expectation}
-use Rattle.marking.specs.Questions.{suits}
+use Rattle.expectations.specs.declared.Expectation.{Expectation}
+use Rattle.expectations.specs.Suits.{suits}
 use Rattle.marking.specs.Met.{MetBy, UnmetBy}
-use Rattle.marking.specs.Verdict.{Verdict, allMet, place, verdictFrom, netTimes, laneLevels, verdict}
-use Rattle.marking.proofs.Judging.{net-below, lane-below, span-is, each-suits}
+use Rattle.expectations.specs.Verdict.{Verdict, allMet, place, verdictFrom, netTimes, laneLevels, verdict}
+use Rattle.expectations.proofs.Judging.{net-below, lane-below, span-is, each-suits}
 use Rattle.marking.proofs.Marked.{verdict-is, list-suits, mark-ran}
 use Rattle.marking.proofs.Spans.{LevelAt, Sound, every-met, met-every, place-found}
 use Rattle.demands.specs.Runs.{Marked}

@@ -34,9 +34,10 @@ use Rattle.engine.specs.Questions as engine
 use Rattle.engine.specs.Run.{filled, runOf}
 use Rattle.looks.specs.Look.{lookQuestions, levelOf, countOf}
 use Rattle.engine.specs.After.{timesOf, levelIn, countIn, NetParts, lastTime}
-use Rattle.marking.specs.declared.Expectation.{Expectation}
+use Rattle.expectations.specs.declared.Expectation.{Expectation}
+use Rattle.expectations.specs.Suits.{listSuits}
 use Rattle.marking.specs.Questions as marking
-use Rattle.marking.specs.Verdict.{Verdict, allMet, place, verdict}
+use Rattle.expectations.specs.Verdict.{Verdict, allMet, place, verdict}
 use Rattle.marking.specs.Mark.{markOf}
 use Rattle.demands.specs.Answers.{Answered, Leaves, SameRefusal, SameVerdict}
 use Rattle.demands.specs.Runs.{Marked, Ran, HoldsPlan}
@@ -60,7 +61,7 @@ pub record Demand1 : Type 0 where
   pub mark-areas : (file before after : List ℕ) (a : Areas) (list : List Expectation)
       → Leaves (markOf file before after a list .answer) (filled (circuitOf file) before after a) (allCleared a) a (markOf file before after a list .left)
   -- where the list passes question 12, Mark leaves the areas as Run does
-  pub mark-as-run : (file before after : List ℕ) (a : Areas) (list : List Expectation) → marking.listSuits (netCount (circuitOf file)) list ≡ true
+  pub mark-as-run : (file before after : List ℕ) (a : Areas) (list : List Expectation) → listSuits (netCount (circuitOf file)) list ≡ true
       → markOf file before after a list .left ≡ runOf file before after a .left
   pub level : (times values : List ℕ) (L t : ℕ) → Answered (lookQuestions times values L) (level times (map (lane L) values) t) (levelOf times values L t)
   pub count : (times values : List ℕ) (L : ℕ) → Answered (lookQuestions times values L) (changes (map (lane L) values)) (countOf times values L)
@@ -146,7 +147,7 @@ pub record Demand3Alike : Type 0 where
       → (n : ℕ) → n < netCount (circuitOf file) → countIn left n L ≡ countIn left′ n L
   pub marking : (L : ℕ) (file before after : List ℕ) (left : Areas) (file′ before′ after′ : List ℕ) (left′ : Areas)
       → TwoRuns L file before after left file′ before′ after′ left′
-      → (list : List Expectation) → marking.listSuits (netCount (circuitOf file)) list ≡ true → Every (λ (e : Expectation). e .lane ≡ L) list
+      → (list : List Expectation) → listSuits (netCount (circuitOf file)) list ≡ true → Every (λ (e : Expectation). e .lane ≡ L) list
       → (entry entry′ : Areas) → engine.areasSuit entry ≡ true → engine.areasSuit entry′ ≡ true
       → SameVerdict (markOf file before after entry list .answer) (markOf file′ before′ after′ entry′ list .answer)
 

@@ -8,8 +8,8 @@ use Rattle.method.specs.Machine.{machine}
 use Rattle.method.specs.Packed.{laneOf}
 use Rattle.engine.specs.Areas.{Areas}
 use Rattle.engine.specs.After.{timesOf, levelIn}
-use Rattle.marking.specs.declared.Expectation.{Expectation}
-use Rattle.marking.specs.Verdict.{expected}
+use Rattle.expectations.specs.declared.Expectation.{Expectation}
+use Rattle.expectations.specs.Verdict.{expected}
 use Rattle.marking.specs.Met.{MetBy, PlaceBy}
 
 -- at time t the level is the one expected

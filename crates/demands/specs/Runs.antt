@@ -12,8 +12,8 @@ use Rattle.method.specs.Areas as planner
 use Rattle.method.specs.Layout.{pairs, allTimes, allInertial, allFanins}
 use Rattle.engine.specs.Areas.{Areas}
 use Rattle.engine.specs.After as engine
-use Rattle.marking.specs.declared.Expectation.{Expectation}
-use Rattle.marking.specs.Verdict.{Verdict}
+use Rattle.expectations.specs.declared.Expectation.{Expectation}
+use Rattle.expectations.specs.Verdict.{Verdict}
 use Rattle.marking.specs.Mark.{markOf}
 
 -- an accepted Mark with this list: it answers the verdict v, and `left` is what it leaves; its areas held `entry`

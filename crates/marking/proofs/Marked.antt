@@ -23,14 +23,16 @@ use Rattle.engine.specs.After.{Ran}
 use Rattle.engine.proofs.Asking.{passed}
 use Rattle.engine.proofs.Accepted.{ran-filled}
 use Rattle.engine.proofs.After.{after-runs}
-use Rattle.marking.specs.declared.Expectation.{Expectation}
-use Rattle.marking.specs.declared.Marking.{Marking}
-use Rattle.marking.specs.declared.Marking.the-variants as M
-use Rattle.marking.specs.Questions.{listSuits, askedWith, questions}
-use Rattle.marking.specs.Verdict.{Verdict, verdict}
-use Rattle.marking.specs.Mark.{markOf, onPaper}
-use Rattle.marking.specs.Steps.{netsNeeded, Asked, asked, askedOf, searched}
-use Rattle.marking.proofs.Judging.{list-suits-by}
+use Rattle.expectations.specs.declared.Expectation.{Expectation}
+use Rattle.expectations.specs.declared.Marking.{Marking}
+use Rattle.expectations.specs.declared.Marking.the-variants as M
+use Rattle.expectations.specs.Suits.{listSuits}
+use Rattle.marking.specs.Questions.{askedWith, questions}
+use Rattle.expectations.specs.Verdict.{Verdict, verdict, onPaper}
+use Rattle.marking.specs.Mark.{markOf}
+use Rattle.expectations.specs.Steps.{netsNeeded, searched}
+use Rattle.marking.specs.Steps.{Asked, asked, askedOf}
+use Rattle.expectations.proofs.Judging.{list-suits-by}
 use Rattle.marking.proofs.Laddered.{ladder-early, ladder-yes}
 use Rattle.marking.proofs.Searching.{searched-is}
 

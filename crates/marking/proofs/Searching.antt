@@ -26,11 +26,11 @@ use Rattle.method.proofs.Laying.{part-entry}
 use Rattle.engine.specs.Areas.{Areas}
 use Rattle.method.specs.Values.{netCount}
 use Rattle.engine.specs.After.{After}
-use Rattle.marking.specs.declared.Expectation.{Expectation}
-use Rattle.marking.specs.Questions.{suits, listSuits}
-use Rattle.marking.specs.Verdict.{Verdict, place, breaks, firstBreak, verdictFrom, netTimes, laneLevels, verdict}
-use Rattle.marking.proofs.Judging.{net-below, lane-below}
-use Rattle.marking.specs.Steps.{breaksAt, searchedFrames, searchedFrom, searched}
+use Rattle.expectations.specs.declared.Expectation.{Expectation}
+use Rattle.expectations.specs.Suits.{suits, listSuits}
+use Rattle.expectations.specs.Verdict.{Verdict, place, breaks, firstBreak, verdictFrom, netTimes, laneLevels, verdict}
+use Rattle.expectations.proofs.Judging.{net-below, lane-below}
+use Rattle.expectations.specs.Steps.{breaksAt, searchedFrames, searchedFrom, searched}
 
 -- ---- the frames of an expectation's net
 

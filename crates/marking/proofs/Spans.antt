@@ -21,9 +21,9 @@ use Rattle.method.specs.Look.{level}
 use Rattle.method.specs.Times.{startAndRise}
 use Rattle.method.proofs.Rising.{Rise, Starts, test-starts, starts-drop}
 use Rattle.method.proofs.Lasting.{last-mono, last-within, last-is, last-reached, last-next}
-use Rattle.marking.specs.declared.Expectation.{Expectation}
+use Rattle.expectations.specs.declared.Expectation.{Expectation}
 use Rattle.marking.specs.Met.{MetBy, UnmetBy, PlaceBy}
-use Rattle.marking.specs.Verdict.{Verdict, allMet, place, lastsOver, expected, breaks, firstBreak, verdictFrom}
+use Rattle.expectations.specs.Verdict.{Verdict, allMet, place, lastsOver, expected, breaks, firstBreak, verdictFrom}
 
 -- ---- what is said of an expectation, where a net has these times, and these levels in a lane
 

@@ -2,17 +2,15 @@
 use Prim.Native.Nat.{ℕ}
 use mathlib.Core.List.{List}
 use lib.ListN.{length}
-use Rattle.lists.specs.Ladder.{firstNo, Answer, accepted, refused, unless}
+use Rattle.lists.specs.Ladder.{firstNo, unless}
 use Rattle.lists.specs.Outcome.{Outcome, outcome}
 use Rattle.method.specs.Circuit.{Circuit}
 use Rattle.circuit.specs.File.{circuitOf}
 use Rattle.engine.specs.Areas.{Areas}
 use Rattle.engine.specs.Run.{runLeft}
-use Rattle.marking.specs.declared.Expectation.{Expectation}
-use Rattle.marking.specs.declared.Marking.{Marking}
-use Rattle.marking.specs.declared.Marking.the-variants as M
+use Rattle.expectations.specs.declared.Expectation.{Expectation}
 use Rattle.marking.specs.Questions.{questions}
-use Rattle.marking.specs.Verdict.{Verdict, allMet, place, verdict}
+use Rattle.expectations.specs.Verdict.{Verdict, verdict}
 
 -- Mark of a file, with these before words and after words, of areas with these contents, and of a list of expectations; an
 -- acceptance fills the areas as Run does, whatever the verdict
@@ -21,9 +19,3 @@ markOf file before after a list =
     let n : ℕ = firstNo (questions file a (length before) (length after) list) in
     let c : Circuit = circuitOf file in
     outcome (unless n (verdict c before after list)) (runLeft n c before after a)
-
--- a `Marking` in the paper's terms: all met, the place, or the number alone
-unfoldable pub onPaper : Marking → Answer Verdict
-onPaper M.AllMet = accepted allMet
-onPaper (M.Unmet i k) = accepted (place i (k .0))
-onPaper (M.Refused n) = refused n

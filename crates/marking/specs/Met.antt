@@ -6,7 +6,7 @@ use mathlib.Core.List.{List, _∷_, _++_}
 use lib.ListN.{length}
 use Rattle.lists.specs.Every.{Every}
 use Rattle.method.specs.Indices.{lastFrame}
-use Rattle.marking.specs.declared.Expectation.{Expectation}
+use Rattle.expectations.specs.declared.Expectation.{Expectation}
 
 -- at each time that it covers
 abbrev pub MetBy : (Expectation → ℕ → Type 0) → Expectation → Type 0

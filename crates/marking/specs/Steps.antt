@@ -1,32 +1,13 @@
 -- What Mark's own functions promise each other. A reader of Mark's promise may skip this file.
-use Prim.Native.Nat.{ℕ, zero, suc, _+_, max}
-use mathlib.Core.Bool.{Bool, not, cond, _&&_, _||_, Bool·beq}
-use mathlib.Core.List.{List, [], _∷_}
-use lib.ListN.{length, getD}
-use lib.Dec.{ltb, leb}
+use Prim.Native.Nat.{ℕ}
+use mathlib.Core.Bool.{Bool}
+use mathlib.Core.List.{List}
+use lib.ListN.{length}
 use Rattle.lists.specs.Ladder.{firstNo}
-use Rattle.method.specs.Words.{lanes, lane}
 use Rattle.circuit.specs.File.{circuitOf}
-use Rattle.method.specs.Layout.{firstFrame, frameCount}
 use Rattle.engine.specs.Areas.{Areas}
 use Rattle.engine.specs.Run.{runLeft}
-use Rattle.marking.specs.declared.Expectation.{Expectation}
 use Rattle.marking.specs.Questions.{askedWith}
-use Rattle.marking.specs.Verdict.{Verdict, allMet, place, expected}
-
--- ---- the questions, and the run
-
--- more nets than any circuit has
-abbrev pub noCircuit : ℕ
-noCircuit = 131072
-
--- how many nets a circuit must have, so that an expectation passes question 12 there; and so that all of a list do
-unfoldable pub netsFor : Expectation → ℕ
-netsFor e = cond (ltb (e .lane) lanes && (leb (e .from .0) (e .to .0) && leb (e .level) 1)) (e .net .0 + 1) noCircuit
-
-unfoldable pub netsNeeded : List Expectation → ℕ
-netsNeeded [] = 0
-netsNeeded (e ∷ list) = max (netsFor e) (netsNeeded list)
 
 -- the number of the first "no", or 0, with what stands in the areas then
 pub record Asked : Type 0 where
@@ -41,26 +22,3 @@ unfoldable pub askedOf : List ℕ → List ℕ → List ℕ → Areas → Bool �
 askedOf file before after a suit =
     let n : ℕ = firstNo (askedWith file a (length before) (length after) suit) in
     asked n (runLeft n (circuitOf file) before after a)
-
--- ---- the search, in areas with these contents
-
-module _ (d t v : List ℕ) where
-  -- frame k of an expectation's net breaks it
-  unfoldable pub breaksAt : Expectation → ℕ → Bool
-  breaksAt e k =
-      let at : ℕ = firstFrame d (e .net .0) + k in
-      not (Bool·beq (lane (e .lane) (getD v at 0)) (expected e))
-      && (leb (getD t at 0) (e .to .0) && (leb (frameCount d (e .net .0)) (k + 1) || ltb (e .from .0) (getD t (at + 1) 0)))
-
-  -- the first of n frames, from frame k on, that does; else what the list behind gives
-  unfoldable pub searchedFrames : Expectation → ℕ → ℕ → ℕ → Verdict → Verdict
-  searchedFrames e i zero k behind = behind
-  searchedFrames e i (suc n) k behind = cond (breaksAt e k) (place i k) (searchedFrames e i n (suc k) behind)
-
-  -- the list, from position i on
-  unfoldable pub searchedFrom : ℕ → List Expectation → Verdict
-  searchedFrom i [] = allMet
-  searchedFrom i (e ∷ list) = searchedFrames e i (frameCount d (e .net .0)) 0 (searchedFrom (suc i) list)
-
-  abbrev pub searched : List Expectation → Verdict
-  searched list = searchedFrom 0 list

@@ -1,56 +1,12 @@
 // What Mark asks, and the run that follows.
 ghost use mathlib.Core.Path.{_≡_};
 ghost use Rattle.engine.specs.Areas.{areas};
-ghost use Prim.Native.Nat.{max};
 ghost use lib.Dec.{leb};
 ghost use Rattle.method.specs.Values.{netCount};
 ghost use Rattle.circuit.specs.File.{circuitOf};
-ghost use Rattle.marking.specs.Steps.{netsFor, netsNeeded, asked, askedOf};
-use crate::Expectation;
+ghost use Rattle.marking.specs.Steps.{asked, askedOf};
 use circuit::Reading;
 use planner::Planning;
-
-// More nets than any circuit has.
-const NO_CIRCUIT: u32 = 131072;
-
-// How many nets a circuit must have so that the expectation passes question 12 there.
-fn nets_for(e: Expectation) -> u32
-    ensures { λ r. ⌜ r ≡ netsFor e ⌝ }
-{
-    if 64 <= e.lane {
-        return NO_CIRCUIT;
-    }
-    if e.to.0 < e.from.0 {
-        return NO_CIRCUIT;
-    }
-    if 1 < e.level {
-        return NO_CIRCUIT;
-    }
-    e.net.0 as u32 + 1
-}
-
-// These nets, or as many as the expectation needs where that is more.
-pub(crate) fn at_least(e: Expectation, nets: u32) -> u32
-    ensures { λ r. ⌜ r ≡ max nets (netsFor e) ⌝ }
-{
-    let needed = nets_for(e);
-    if nets < needed { needed } else { nets }
-}
-
-// How many nets a circuit must have so that the list passes question 12 there. Proved by hand, as the list is lent.
-pub(crate) fn nets_needed<'a>(list: &'a [Expectation]) -> u32
-    ensures { λ r. ⌜ r ≡ netsNeeded (now (list .entry)) ⌝ }
-{
-    let mut nets: u32 = 0;
-    let mut i: usize = 0;
-    loop {
-        if i == list.len() {
-            break nets;
-        }
-        nets = at_least(list[i], nets);
-        i = i + 1;
-    }
-}
 
 // Questions 1 to 11, then 12, whether there are as many nets as the list needs, then Run with 13: the number of the first
 // "no", or 0. The areas that the search reads afterwards are lent for the call alone, 'w.

@@ -2,34 +2,16 @@
 ghost use mathlib.Core.Path.{_≡_};
 ghost use Rattle.lists.specs.Outcome.{outcome};
 ghost use Rattle.engine.specs.Areas.{areas};
-ghost use Rattle.marking.specs.Mark.{markOf, onPaper};
+ghost use Rattle.expectations.specs.Verdict.{onPaper};
+ghost use Rattle.marking.specs.Mark.{markOf};
 
 mod asking;
-mod search;
 
-use asking::nets_needed;
 use asking::run_asked;
-use method::Frame;
-use method::Net;
-use method::Time;
-use search::first_unmet;
-
-// What a marker expects: on this net, in this lane, this level (0 or 1) at every time from `from` to `to`, both included.
-pub struct Expectation {
-    pub net: Net,
-    pub lane: u8,
-    pub from: Time,
-    pub to: Time,
-    pub level: u8,
-}
-
-// What Mark answers: all met; or the position of the first expectation that is not, from 0, with the first frame that
-// breaks it; or the number of the first "no".
-pub enum Marking {
-    AllMet,
-    Unmet(usize, Frame),
-    Refused(u8),
-}
+pub use expectations::Expectation;
+pub use expectations::Marking;
+use expectations::needs::nets_needed;
+use expectations::search::first_unmet;
 
 // Runs the circuit of the file as Run does, and marks the run: questions 1 to 11, then 12, then 13. The areas are left as
 // Run leaves them, whatever the verdict. Proved by hand, as the list is lent.

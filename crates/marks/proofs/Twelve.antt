@@ -11,9 +11,9 @@ use denote.Laws.{Is}
 use denote.Array.{Array, array-vals, array-tells}
 use denote.Slice.{Room}
 use denote.Struct.Laws as LL
-use Rattle.marking.specs.declared.Expectation.{Expectation}
-use Rattle.marking.proofs.Expectation as T
-use Rattle.marking.proofs.Expectation.Laws as T′
+use Rattle.expectations.specs.declared.Expectation.{Expectation}
+use Rattle.expectations.proofs.Expectation as T
+use Rattle.expectations.proofs.Expectation.Laws as T′
 use Rattle.walks.proofs.Lent as lent
 
 abbrev pub Twelve : RattleType

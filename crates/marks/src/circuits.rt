@@ -1,8 +1,8 @@
 // A case: a circuit with its words and the expectations, and Mark on them.
 ghost use Prim.Native.Nat.{_≤_};
-use crate::expectations::list_of;
-use crate::expectations::show_marking;
 use crate::lending::mark_first;
+use crate::records::list_of;
+use crate::records::show_marking;
 use marking::Expectation;
 use testbench::Case;
 use testbench::after_count;

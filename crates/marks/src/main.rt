@@ -10,8 +10,8 @@
 // The program stops at the end of the input. At a case that is cut short and at one that its buffers do not hold it prints
 // `cut` and stops.
 mod circuits;
-mod expectations;
 mod lending;
+mod records;
 
 use circuits::circuit_case;
 use libc::STDIN_FILENO;

@@ -54,32 +54,33 @@ use Rattle.lists.specs.Outcome.{Outcome, outcome}
 use Rattle.method.specs.Values.{netCount}
 use Rattle.circuit.specs.File.{circuitOf}
 use Rattle.engine.specs.Areas.{Areas, areas}
-use Rattle.marking.specs.declared.Expectation.{Expectation}
-use Rattle.marking.specs.declared.Marking.{Marking}
-use Rattle.marking.specs.declared.Marking.the-variants.{Refused}
-use Rattle.marking.specs.Verdict.{Verdict}
-use Rattle.marking.specs.Mark.{markOf, onPaper}
-use Rattle.marking.specs.Steps.{netsNeeded, asked, askedOf, searched}
+use Rattle.expectations.specs.declared.Expectation.{Expectation}
+use Rattle.expectations.specs.declared.Marking.{Marking}
+use Rattle.expectations.specs.declared.Marking.the-variants.{Refused}
+use Rattle.expectations.specs.Verdict.{Verdict, onPaper}
+use Rattle.marking.specs.Mark.{markOf}
+use Rattle.expectations.specs.Steps.{netsNeeded, searched}
+use Rattle.marking.specs.Steps.{asked, askedOf}
 use Rattle.walks.proofs.Again.{LentAgain, lends-again, comes-back}
 use Rattle.marking.proofs.Marked.{mark-no, mark-yes}
 use Rattle.walks.proofs.Shown.{shares-slice}
-use Rattle.marking.proofs.Turns.{apart}
+use Rattle.expectations.proofs.Turns.{apart}
 use Rattle.walks.proofs.Walking.{hole, tests}
-use Rattle.marking.proofs.Expectation as T
-use Rattle.marking.proofs.Marking as Mk
-use Rattle.marking.proofs.Marking.Laws as Mk′
-use Rattle.marking.proofs.asking.nets_needed as needs
-use Rattle.marking.proofs.asking.nets_needed.Symbol as needs-def
-use Rattle.marking.proofs.asking.nets_needed.Symbol.{name as #marking·nets-needed}
-use Rattle.marking.proofs.asking.nets_needed.Met as needs-thm
+use Rattle.expectations.proofs.Expectation as T
+use Rattle.expectations.proofs.Marking as Mk
+use Rattle.expectations.proofs.Marking.Laws as Mk′
+use Rattle.expectations.proofs.needs.nets_needed as needs
+use Rattle.expectations.proofs.needs.nets_needed.Symbol as needs-def
+use Rattle.expectations.proofs.needs.nets_needed.Symbol.{name as #marking·nets-needed}
+use Rattle.expectations.proofs.needs.nets_needed.Met as needs-thm
 use Rattle.marking.proofs.asking.run_asked as run
 use Rattle.marking.proofs.asking.run_asked.Symbol as run-def
 use Rattle.marking.proofs.asking.run_asked.Symbol.{name as #marking·run-asked}
 use Rattle.marking.proofs.asking.run_asked.Met as run-thm
-use Rattle.marking.proofs.search.first_unmet as first
-use Rattle.marking.proofs.search.first_unmet.Symbol as first-def
-use Rattle.marking.proofs.search.first_unmet.Symbol.{name as #marking·first-unmet}
-use Rattle.marking.proofs.search.first_unmet.Met as first-thm
+use Rattle.expectations.proofs.search.first_unmet as first
+use Rattle.expectations.proofs.search.first_unmet.Symbol as first-def
+use Rattle.expectations.proofs.search.first_unmet.Symbol.{name as #marking·first-unmet}
+use Rattle.expectations.proofs.search.first_unmet.Met as first-thm
 use Rattle.marking.proofs.mark.Key.{name as #marking·mark}
 use Rattle.marking.proofs.mark as f
 use Rattle.marking.proofs.mark.Statement as stated
@@ -503,6 +504,6 @@ mark-spec 𝓤 H 𝓜 𝓖 𝓡 =
     entered 𝓤 H (tripleOf 𝓤 H (𝓖 .A) f.signature (f.spec 𝓤 H (𝓖 .A) (𝓜 .mem) (𝓡 .run)))
     (tables 𝓤 H 𝓜 𝓡 code.env .C) (tables 𝓤 H 𝓜 𝓡 code.env .Λ) #marking·mark code.function (code.unfolded 𝓤 H 𝓜 𝓡)
     (f-meets 𝓤 H (𝓖 .A) (givenOf 𝓤 H 𝓜 𝓖) (𝓜 .mem) (𝓡 .run) (tablesOf 𝓤 H 𝓜 (tables 𝓤 H 𝓜 𝓡 code.env))
-    (cited 𝓤 H (Needs 𝓤 H (𝓖 .A) (𝓜 .mem) (𝓡 .run)) 𝓜 𝓡 code.env #marking·nets-needed needs-def.routine code.calls-marking·asking·nets-needed (needs-thm.met 𝓤 H 𝓜 𝓖 𝓡))
+    (cited 𝓤 H (Needs 𝓤 H (𝓖 .A) (𝓜 .mem) (𝓡 .run)) 𝓜 𝓡 code.env #marking·nets-needed needs-def.routine code.calls-expectations·needs·nets-needed (needs-thm.met 𝓤 H 𝓜 𝓖 𝓡))
     (cited 𝓤 H (Run 𝓤 H (𝓖 .A) (𝓜 .mem) (𝓡 .run)) 𝓜 𝓡 code.env #marking·run-asked run-def.routine code.calls-marking·asking·run-asked (run-thm.met 𝓤 H 𝓜 𝓖 𝓡))
-    (cited 𝓤 H (First 𝓤 H (𝓖 .A) (𝓜 .mem) (𝓡 .run)) 𝓜 𝓡 code.env #marking·first-unmet first-def.routine code.calls-marking·search·first-unmet (first-thm.met 𝓤 H 𝓜 𝓖 𝓡)))
+    (cited 𝓤 H (First 𝓤 H (𝓖 .A) (𝓜 .mem) (𝓡 .run)) 𝓜 𝓡 code.env #marking·first-unmet first-def.routine code.calls-expectations·search·first-unmet (first-thm.met 𝓤 H 𝓜 𝓖 𝓡)))

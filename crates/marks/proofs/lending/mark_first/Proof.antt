@@ -48,12 +48,12 @@ use denote.Triple.Table.{entered, cited}
 use denote.Triple.Clauses.{ensured, lasts, atExit}
 use denote.Triple.Walked.{needs, Stays, stay-dropped, gave-slice, walkOf, Walks, onExit, ends-at, walked, goes-dropped, goes-gave-slice, walk-meets}
 use denote.Exit.{yes}
-use Rattle.marking.specs.declared.Expectation.{Expectation}
-use Rattle.marking.specs.declared.Marking.{Marking}
-use Rattle.marking.proofs.Expectation as T
-use Rattle.marking.proofs.Expectation.Laws as T′
-use Rattle.marking.proofs.Marking as Mk
-use Rattle.marking.proofs.Marking.Laws as Mk′
+use Rattle.expectations.specs.declared.Expectation.{Expectation}
+use Rattle.expectations.specs.declared.Marking.{Marking}
+use Rattle.expectations.proofs.Expectation as T
+use Rattle.expectations.proofs.Expectation.Laws as T′
+use Rattle.expectations.proofs.Marking as Mk
+use Rattle.expectations.proofs.Marking.Laws as Mk′
 use Rattle.marking.proofs.mark as mark
 use Rattle.marking.proofs.mark.Symbol as mark-def
 use Rattle.marking.proofs.mark.Symbol.{name as #marking·mark}

@@ -1,9 +1,9 @@
 -- `breaks` meets its contract: each `return` answers the tests in the order of the definition.
 -- Assumes nothing.
-use Rattle.marking.proofs.Judging.{breaks-not, breaks-late, breaks-last, breaks-next}
+use Rattle.expectations.proofs.Judging.{breaks-not, breaks-late, breaks-last, breaks-next}
 use borrow.Author.Needs.{needs}
-use Rattle.marking.proofs.search.breaks.Statement.{statement}
-use Rattle.marking.proofs.search.breaks.Tie as tie
+use Rattle.expectations.proofs.search.breaks.Statement.{statement}
+use Rattle.expectations.proofs.search.breaks.Tie as tie
 
 cast-k : tie.Need-cast-k
 cast-k c = search needs

@@ -3,11 +3,14 @@ use Prim.Native.Nat.{ℕ, suc}
 use mathlib.Core.Bool.{Bool, not, cond, _&&_, Bool·beq}
 use mathlib.Core.List.{List, [], _∷_}
 use lib.Dec.{ltb, leb, eqb}
+use Rattle.lists.specs.Ladder.{Answer, accepted, refused}
 use Rattle.method.specs.Circuit.{Circuit}
 use Rattle.method.specs.Frames.{framesAt}
 use Rattle.method.specs.Traces.{traceAt}
 use Rattle.method.specs.Packed.{laneOf}
-use Rattle.marking.specs.declared.Expectation.{Expectation}
+use Rattle.expectations.specs.declared.Expectation.{Expectation}
+use Rattle.expectations.specs.declared.Marking.{Marking}
+use Rattle.expectations.specs.declared.Marking.the-variants as M
 
 -- all met, or the place: the expectation's position in the list, from 0, and the frame's number
 pub data Verdict : Type 0 where
@@ -51,3 +54,9 @@ laneLevels c before after L n = traceAt c (laneOf L before after) n .values
 -- of a circuit, run for these words
 unfoldable pub verdict : Circuit → List ℕ → List ℕ → List Expectation → Verdict
 verdict c before after list = verdictFrom (netTimes c) (laneLevels c before after) 0 list
+
+-- a `Marking` in the paper's terms: all met, the place, or the number alone
+unfoldable pub onPaper : Marking → Answer Verdict
+onPaper M.AllMet = accepted allMet
+onPaper (M.Unmet i k) = accepted (place i (k .0))
+onPaper (M.Refused n) = refused n

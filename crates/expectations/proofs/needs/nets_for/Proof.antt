@@ -1,9 +1,9 @@
 -- `nets_for` meets its contract: each test is one of the definition's, and a "no" gives more nets than any circuit has.
 -- Assumes nothing.
-use Rattle.marking.proofs.Judging.{needs-lane, needs-span, needs-level, needs-net}
+use Rattle.expectations.proofs.Judging.{needs-lane, needs-span, needs-level, needs-net}
 use borrow.Author.Needs.{needs}
-use Rattle.marking.proofs.asking.nets_for.Statement.{statement}
-use Rattle.marking.proofs.asking.nets_for.Tie as tie
+use Rattle.expectations.proofs.needs.nets_for.Statement.{statement}
+use Rattle.expectations.proofs.needs.nets_for.Tie as tie
 
 returns : tie.Need-returns
 returns c = needs-lane _ (c .if1 .taken)

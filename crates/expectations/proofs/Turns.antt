@@ -13,11 +13,10 @@ use lib.Seq.{drop-cons, drop-length}
 use Rattle.lists.specs.Ladder.{accepted}
 use Rattle.method.specs.Layout.{frameCount}
 use Rattle.method.specs.declared.Frame.{Frame}
-use Rattle.marking.specs.declared.Expectation.{Expectation}
-use Rattle.marking.specs.declared.Marking.the-variants as M
-use Rattle.marking.specs.Verdict.{Verdict, allMet, place}
-use Rattle.marking.specs.Mark.{onPaper}
-use Rattle.marking.specs.Steps.{netsFor, netsNeeded, breaksAt, searchedFrames, searchedFrom}
+use Rattle.expectations.specs.declared.Expectation.{Expectation}
+use Rattle.expectations.specs.declared.Marking.the-variants as M
+use Rattle.expectations.specs.Verdict.{Verdict, allMet, place, onPaper}
+use Rattle.expectations.specs.Steps.{netsFor, netsNeeded, breaksAt, searchedFrames, searchedFrom}
 
 -- what a read past the end of a list of expectations gives. No read goes there
 abbrev pub nought : Expectation

@@ -2,8 +2,8 @@
 ghost use mathlib.Core.Path.{_≡_};
 ghost use Rattle.lists.specs.Ladder.{accepted};
 ghost use Rattle.method.specs.Layout.{frameCount};
-ghost use Rattle.marking.specs.Mark.{onPaper};
-ghost use Rattle.marking.specs.Steps.{breaksAt, searched};
+ghost use Rattle.expectations.specs.Verdict.{onPaper};
+ghost use Rattle.expectations.specs.Steps.{breaksAt, searched};
 use crate::Expectation;
 use crate::Marking;
 use method::Frame;
@@ -11,7 +11,7 @@ use slices::entry_at;
 use slices::word_at;
 
 // How many frames the net of an expectation has.
-pub(crate) fn frame_count<'a>(e: Expectation, directory: &'a [u16]) -> u16
+fn frame_count<'a>(e: Expectation, directory: &'a [u16]) -> u16
     ensures { λ r. ⌜ r ≡ frameCount (now (directory .entry)) (e .net .0) ⌝ }
 {
     entry_at(directory, 2 * (e.net.0 as usize) + 1)
@@ -19,7 +19,7 @@ pub(crate) fn frame_count<'a>(e: Expectation, directory: &'a [u16]) -> u16
 
 // Whether a frame of its net breaks an expectation: its level is another, and it lasts over some time of the span, that
 // is, it begins by the span's end, and is the last or ends after the span's start.
-pub(crate) fn breaks<'a>(
+fn breaks<'a>(
     e: Expectation,
     directory: &'a [u16],
     times: &'a [u16],
@@ -41,7 +41,7 @@ pub(crate) fn breaks<'a>(
 }
 
 // The first expectation that some frame breaks, with the first frame that does. Proved by hand, as the list is lent.
-pub(crate) fn first_unmet<'a>(
+pub fn first_unmet<'a>(
     directory: &'a [u16],
     times: &'a [u16],
     values: &'a [u64],

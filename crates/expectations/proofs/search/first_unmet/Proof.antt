@@ -59,31 +59,30 @@ use Rattle.method.specs.declared.Frame.{Frame}
 use Rattle.method.proofs.Frame as Fr
 use Rattle.method.proofs.Frame.Laws as Fr′
 use Rattle.method.specs.Layout.{frameCount}
-use Rattle.marking.specs.declared.Expectation.{Expectation}
-use Rattle.marking.specs.declared.Marking.{Marking}
-use Rattle.marking.specs.declared.Marking.the-variants.{AllMet, Unmet}
-use Rattle.marking.specs.Verdict.{Verdict}
-use Rattle.marking.specs.Mark.{onPaper}
-use Rattle.marking.specs.Steps.{breaksAt, searched}
-use Rattle.marking.proofs.Turns.{nought, before-end, fromPlace, fromFrame, search-end, search-one, frames-end, frame-breaks, frame-holds, all-met, unmet}
+use Rattle.expectations.specs.declared.Expectation.{Expectation}
+use Rattle.expectations.specs.declared.Marking.{Marking}
+use Rattle.expectations.specs.declared.Marking.the-variants.{AllMet, Unmet}
+use Rattle.expectations.specs.Verdict.{Verdict, onPaper}
+use Rattle.expectations.specs.Steps.{breaksAt, searched}
+use Rattle.expectations.proofs.Turns.{nought, before-end, fromPlace, fromFrame, search-end, search-one, frames-end, frame-breaks, frame-holds, all-met, unmet}
 use Rattle.walks.proofs.Walking.{hole, held, rest-of, tests, tests-while}
-use Rattle.marking.proofs.Expectation as T
-use Rattle.marking.proofs.Expectation.Laws as T′
-use Rattle.marking.proofs.Marking as Mk
-use Rattle.marking.proofs.Marking.Laws as Mk′
-use Rattle.marking.proofs.search.frame_count as count
-use Rattle.marking.proofs.search.frame_count.Symbol as count-def
-use Rattle.marking.proofs.search.frame_count.Symbol.{name as #marking·search·frame-count}
-use Rattle.marking.proofs.search.frame_count.Met as count-thm
-use Rattle.marking.proofs.search.breaks as test
-use Rattle.marking.proofs.search.breaks.Symbol as test-def
-use Rattle.marking.proofs.search.breaks.Symbol.{name as #marking·search·breaks}
-use Rattle.marking.proofs.search.breaks.Met as test-thm
-use Rattle.marking.proofs.search.first_unmet.Key.{name as #marking·search·first-unmet}
-use Rattle.marking.proofs.search.first_unmet as f
-use Rattle.marking.proofs.search.first_unmet.Statement as stated
-use Rattle.marking.proofs.search.first_unmet.Code as code
-use Rattle.marking.proofs.search.first_unmet.Code.Mir as piece
+use Rattle.expectations.proofs.Expectation as T
+use Rattle.expectations.proofs.Expectation.Laws as T′
+use Rattle.expectations.proofs.Marking as Mk
+use Rattle.expectations.proofs.Marking.Laws as Mk′
+use Rattle.expectations.proofs.search.frame_count as count
+use Rattle.expectations.proofs.search.frame_count.Symbol as count-def
+use Rattle.expectations.proofs.search.frame_count.Symbol.{name as #marking·search·frame-count}
+use Rattle.expectations.proofs.search.frame_count.Met as count-thm
+use Rattle.expectations.proofs.search.breaks as test
+use Rattle.expectations.proofs.search.breaks.Symbol as test-def
+use Rattle.expectations.proofs.search.breaks.Symbol.{name as #marking·search·breaks}
+use Rattle.expectations.proofs.search.breaks.Met as test-thm
+use Rattle.expectations.proofs.search.first_unmet.Key.{name as #marking·search·first-unmet}
+use Rattle.expectations.proofs.search.first_unmet as f
+use Rattle.expectations.proofs.search.first_unmet.Statement as stated
+use Rattle.expectations.proofs.search.first_unmet.Code as code
+use Rattle.expectations.proofs.search.first_unmet.Code.Mir as piece
 
 abbrev stayed : Stays (f.ended .signature .params) (f.ended .kept)
 stayed = (stay-dropped (shrSliceOf (0 ∷ []) tt (plain (λ _. u16))) yes, (stay-dropped (shrSliceOf (0 ∷ []) tt (plain (λ _. u16))) yes, (stay-dropped (shrSliceOf (0 ∷ []) tt (plain (λ _. u64))) yes, (stay-dropped (shrSliceOf (0 ∷ []) tt (plain (λ _. T.the-row))) yes, tt))))
@@ -411,5 +410,5 @@ first-unmet-spec 𝓤 H 𝓜 𝓖 𝓡 =
     entered 𝓤 H (tripleOf 𝓤 H (𝓖 .A) f.signature (f.spec 𝓤 H (𝓖 .A) (𝓜 .mem) (𝓡 .run)))
     (tables 𝓤 H 𝓜 𝓡 code.env .C) (tables 𝓤 H 𝓜 𝓡 code.env .Λ) #marking·search·first-unmet code.function (code.unfolded 𝓤 H 𝓜 𝓡)
     (f-meets 𝓤 H (𝓖 .A) (givenOf 𝓤 H 𝓜 𝓖) (𝓜 .mem) (𝓡 .run) (tablesOf 𝓤 H 𝓜 (tables 𝓤 H 𝓜 𝓡 code.env))
-    (cited 𝓤 H (Count 𝓤 H (𝓖 .A) (𝓜 .mem) (𝓡 .run)) 𝓜 𝓡 code.env #marking·search·frame-count count-def.routine code.calls-marking·search·frame-count (count-thm.met 𝓤 H 𝓜 𝓖 𝓡))
-    (cited 𝓤 H (Test 𝓤 H (𝓖 .A) (𝓜 .mem) (𝓡 .run)) 𝓜 𝓡 code.env #marking·search·breaks test-def.routine code.calls-marking·search·breaks (test-thm.met 𝓤 H 𝓜 𝓖 𝓡)))
+    (cited 𝓤 H (Count 𝓤 H (𝓖 .A) (𝓜 .mem) (𝓡 .run)) 𝓜 𝓡 code.env #marking·search·frame-count count-def.routine code.calls-expectations·search·frame-count (count-thm.met 𝓤 H 𝓜 𝓖 𝓡))
+    (cited 𝓤 H (Test 𝓤 H (𝓖 .A) (𝓜 .mem) (𝓡 .run)) 𝓜 𝓡 code.env #marking·search·breaks test-def.routine code.calls-expectations·search·breaks (test-thm.met 𝓤 H 𝓜 𝓖 𝓡)))

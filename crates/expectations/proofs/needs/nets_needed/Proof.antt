@@ -51,21 +51,21 @@ use denote.Triple.Table.{entered, cited}
 use denote.Triple.Clauses.{ensured, lasts}
 use denote.Triple.Walked.{says, Stays, stay-dropped, walkOf, Walks, ends-at, walked, goes-dropped, walk-meets}
 use denote.Exit.{yes}
-use Rattle.marking.specs.declared.Expectation.{Expectation}
-use Rattle.marking.specs.Steps.{netsFor, netsNeeded}
-use Rattle.marking.proofs.Turns.{nought, before-end, neededFrom, needed-start, needed-end, needed-on}
+use Rattle.expectations.specs.declared.Expectation.{Expectation}
+use Rattle.expectations.specs.Steps.{netsFor, netsNeeded}
+use Rattle.expectations.proofs.Turns.{nought, before-end, neededFrom, needed-start, needed-end, needed-on}
 use Rattle.walks.proofs.Walking.{hole, held, tests}
-use Rattle.marking.proofs.Expectation as T
-use Rattle.marking.proofs.Expectation.Laws as T′
-use Rattle.marking.proofs.asking.at_least as one
-use Rattle.marking.proofs.asking.at_least.Symbol as one-def
-use Rattle.marking.proofs.asking.at_least.Symbol.{name as #marking·asking·at-least}
-use Rattle.marking.proofs.asking.at_least.Met as one-thm
-use Rattle.marking.proofs.asking.nets_needed.Key.{name as #marking·asking·nets-needed}
-use Rattle.marking.proofs.asking.nets_needed as f
-use Rattle.marking.proofs.asking.nets_needed.Statement as stated
-use Rattle.marking.proofs.asking.nets_needed.Code as code
-use Rattle.marking.proofs.asking.nets_needed.Code.Mir as piece
+use Rattle.expectations.proofs.Expectation as T
+use Rattle.expectations.proofs.Expectation.Laws as T′
+use Rattle.expectations.proofs.needs.at_least as one
+use Rattle.expectations.proofs.needs.at_least.Symbol as one-def
+use Rattle.expectations.proofs.needs.at_least.Symbol.{name as #at-least}
+use Rattle.expectations.proofs.needs.at_least.Met as one-thm
+use Rattle.expectations.proofs.needs.nets_needed.Key.{name as #nets-needed}
+use Rattle.expectations.proofs.needs.nets_needed as f
+use Rattle.expectations.proofs.needs.nets_needed.Statement as stated
+use Rattle.expectations.proofs.needs.nets_needed.Code as code
+use Rattle.expectations.proofs.needs.nets_needed.Code.Mir as piece
 
 abbrev stayed : Stays (f.ended .signature .params) (f.ended .kept)
 stayed = (stay-dropped (shrSliceOf (0 ∷ []) tt (plain (λ _. T.the-row))) yes, tt)
@@ -153,7 +153,7 @@ module _ {M : Type 1} (𝓤 : URA M) (H : Heap 𝓤) (A : Atoms 𝓤) (W : Given
   place-fits : Room T.the-row n → (i : ℕ) → i < n → i * 10 < 2 ^ 64
   place-fits gn i l = omega (arith, gn .1)
 
-  module _ (𝓣 : Tables 𝓤 H) (known : Triple 𝓤 (𝓣 .C #marking·asking·at-least) (One 𝓤 H A mem run)) (gn : Room T.the-row n) where
+  module _ (𝓣 : Tables 𝓤 H) (known : Triple 𝓤 (𝓣 .C #at-least) (One 𝓤 H A mem run)) (gn : Room T.the-row n) where
     module _ (l₀ l₁ l₂ l₃ l₄ l₅ l₆ l₇ l₈ : ℕ) where
       abbrev C : Calls 𝓤 H
       C = 𝓣 .C
@@ -236,7 +236,7 @@ module _ {M : Type 1} (𝓤 : URA M) (H : Heap 𝓤) (A : Atoms 𝓤) (W : Given
         move ! (18 ∷ []) $ split ! $ move ! (20 ∷ []) $ fsplit ! $ fsplit ! $ drop ! $ fsplit ! $ drop ! $ move ! (1 ∷ []) $ drop ! $ move ! (2 ∷ []) $ drop ! $ move ! (1 ∷ 0 ∷ []) $
         looped l₀ l₁ l₂ l₃ l₄ l₅ l₆ l₇ l₈)))))))))
 
-module _ {M : Type 1} (𝓤 : URA M) (H : Heap 𝓤) (A : Atoms 𝓤) (W : Given 𝓤 H A) (mem : Memory → SProp 𝓤) (run : Routine → Fun 𝓤) (𝓣 : Tables 𝓤 H) (known : Triple 𝓤 (𝓣 .C #marking·asking·at-least) (One 𝓤 H A mem run)) where
+module _ {M : Type 1} (𝓤 : URA M) (H : Heap 𝓤) (A : Atoms 𝓤) (W : Given 𝓤 H A) (mem : Memory → SProp 𝓤) (run : Routine → Fun 𝓤) (𝓣 : Tables 𝓤 H) (known : Triple 𝓤 (𝓣 .C #at-least) (One 𝓤 H A mem run)) where
   f-walks : Walks 𝓤 H A f.ended stayed (WpFn 𝓤 H (𝓣 .C) (𝓣 .Λ) code.function) (f.clauses 𝓤 H A mem run)
   f-walks = walked 𝓤 H A f.ended stayed (f.clauses 𝓤 H A mem run) (WpFn 𝓤 H (𝓣 .C) (𝓣 .Λ) code.function) (λ κs. (slice-vals, tt))
       (λ κs. (shr-slice-tells (named 0) (κs .0) T.the-row, tt))
@@ -251,6 +251,6 @@ pub nets-needed-spec : {M : Type 1} → stated.statement M
 unfolding code.routine tablesOf
 nets-needed-spec 𝓤 H 𝓜 𝓖 𝓡 =
     entered 𝓤 H (tripleOf 𝓤 H (𝓖 .A) f.signature (f.spec 𝓤 H (𝓖 .A) (𝓜 .mem) (𝓡 .run)))
-    (tables 𝓤 H 𝓜 𝓡 code.env .C) (tables 𝓤 H 𝓜 𝓡 code.env .Λ) #marking·asking·nets-needed code.function (code.unfolded 𝓤 H 𝓜 𝓡)
+    (tables 𝓤 H 𝓜 𝓡 code.env .C) (tables 𝓤 H 𝓜 𝓡 code.env .Λ) #nets-needed code.function (code.unfolded 𝓤 H 𝓜 𝓡)
     (f-meets 𝓤 H (𝓖 .A) (givenOf 𝓤 H 𝓜 𝓖) (𝓜 .mem) (𝓡 .run) (tablesOf 𝓤 H 𝓜 (tables 𝓤 H 𝓜 𝓡 code.env))
-    (cited 𝓤 H (One 𝓤 H (𝓖 .A) (𝓜 .mem) (𝓡 .run)) 𝓜 𝓡 code.env #marking·asking·at-least one-def.routine code.calls-marking·asking·at-least (one-thm.met 𝓤 H 𝓜 𝓖 𝓡)))
+    (cited 𝓤 H (One 𝓤 H (𝓖 .A) (𝓜 .mem) (𝓡 .run)) 𝓜 𝓡 code.env #at-least one-def.routine code.calls-expectations·needs·at-least (one-thm.met 𝓤 H 𝓜 𝓖 𝓡)))

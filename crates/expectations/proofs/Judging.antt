@@ -16,9 +16,9 @@ use Rattle.lists.proofs.Each.{every-true}
 use Rattle.lists.proofs.Choices.{order, and-left, and-right}
 use Rattle.method.specs.Words.{lanes, lane}
 use Rattle.method.specs.Layout.{firstFrame, frameCount}
-use Rattle.marking.specs.declared.Expectation.{Expectation}
-use Rattle.marking.specs.Questions.{suits, listSuits}
-use Rattle.marking.specs.Steps.{noCircuit, netsFor, netsNeeded, breaksAt}
+use Rattle.expectations.specs.declared.Expectation.{Expectation}
+use Rattle.expectations.specs.Suits.{suits, listSuits}
+use Rattle.expectations.specs.Steps.{noCircuit, netsFor, netsNeeded, breaksAt}
 
 -- ---- how many nets a circuit must have for an expectation
 
