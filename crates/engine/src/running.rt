@@ -61,7 +61,7 @@ pub(crate) fn simulate(
 {
     match layout::fill(file, inputs, gates, directory, times, inertial, fanins) {
         Progress::TooMany => {
-            slices::clear_words(values);
+            clearing::clear_words(values);
             Planning::Refused(13)
         }
         Progress::Planned(t) => {

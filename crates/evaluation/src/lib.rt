@@ -34,5 +34,5 @@ pub fn evaluate(
     input_words(values, before, after);
     all_gates(file, directory, inertial, fanins, values, inputs, gates);
     let end = values.len();
-    slices::clear_words(&mut values[frames..end]);
+    clearing::clear_words(&mut values[frames..end]);
 }

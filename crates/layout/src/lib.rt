@@ -59,10 +59,10 @@ pub fn fill(
 fn clear_all(directory: &mut [u16], times: &mut [u16], inertial: &mut [u16], fanins: &mut [u16])
     ensures { λ _. ⌜ areas (now (directory .exit)) (now (times .exit)) (now (inertial .exit)) (now (fanins .exit)) ≡ allCleared (areas (now (directory .entry)) (now (times .entry)) (now (inertial .entry)) (now (fanins .entry))) ⌝ }
 {
-    slices::clear(directory);
-    slices::clear(times);
-    slices::clear(inertial);
-    slices::clear(fanins);
+    clearing::clear(directory);
+    clearing::clear(times);
+    clearing::clear(inertial);
+    clearing::clear(fanins);
 }
 
 // Writes the pairs and the times of the inputs into areas of zeros, and answers their totals. Their inertial indices are 0,

@@ -1,46 +1,12 @@
-// Clearing, storing and reading in a lent area, a search in a row of numbers, and two tests.
+// Storing and reading in a lent area, a search in a row of numbers, and two tests.
 ghost use mathlib.Core.Path.{_≡_};
 ghost use mathlib.Core.Bool.{cond};
 ghost use Prim.Native.Nat.{_+_};
 ghost use lib.Dec.{leb};
 ghost use lib.ListN.{drop, getD};
 ghost use lib.Seq.{sets};
-ghost use Rattle.lists.specs.Areas.{cleared};
 ghost use Rattle.lists.specs.Ladder.{between};
 ghost use Rattle.lists.specs.Front.{leading};
-
-// Sets every number of the area to 0.
-pub fn clear(area: &mut [u16])
-    ensures { λ _. ⌜ now (area .exit) ≡ cleared (now (area .entry)) ⌝ }
-{
-    let mut i = 0;
-    while i < area.len() {
-        area[i] = 0;
-        i += 1;
-    }
-}
-
-// Sets every word to 0.
-pub fn clear_words(words: &mut [u64])
-    ensures { λ _. ⌜ now (words .exit) ≡ cleared (now (words .entry)) ⌝ }
-{
-    let mut w = 0;
-    while w < words.len() {
-        words[w] = 0;
-        w += 1;
-    }
-}
-
-// Sets every byte to 0.
-pub fn clear_bytes(bytes: &mut [u8])
-    ensures { λ _. ⌜ now (bytes .exit) ≡ cleared (now (bytes .entry)) ⌝ }
-{
-    let mut b = 0;
-    while b < bytes.len() {
-        bytes[b] = 0;
-        b += 1;
-    }
-}
 
 // Stores the row into the area from `at` on, as far as the area reaches.
 pub fn store(area: &mut [u16], at: usize, row: &[u16])

@@ -25,7 +25,7 @@ pub fn wave(input: &[u8], output: &mut [u8]) -> Printing
     if output.len() != BUFFER_LENGTH {
         return Printing::OtherLength;
     }
-    slices::clear_bytes(output);
+    clearing::clear_bytes(output);
     if !is_whole(input) {
         return Printing::Printed(put_refused(output, 0));
     }

@@ -1,12 +1,12 @@
--- `slices::clear_words` meets its contract: after w turns the first w words are 0 and the others are as they were.
+-- `clear_words` meets its contract: after w turns the first w words are 0 and the others are as they were.
 -- Assumes nothing.
 use Prim.Native.Nat.{_-_}
 use lib.ListN.{length, length-set}
 use native.Mathlib.Omega.{arith}
 use borrow.Author.Needs.{needs}
 use Rattle.lists.proofs.Zeros.{Filled, none, more, all}
-use Rattle.slices.proofs.clear_words.Statement.{statement}
-use Rattle.slices.proofs.clear_words.Tie as tie
+use Rattle.clearing.proofs.clear_words.Statement.{statement}
+use Rattle.clearing.proofs.clear_words.Tie as tie
 
 abbrev Inv-loop : tie.InvT-loop
 Inv-loop words₀ w₀ words w = Filled words₀ words w

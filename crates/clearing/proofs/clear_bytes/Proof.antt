@@ -1,12 +1,12 @@
--- `slices::clear_bytes` meets its contract: after b turns the first b bytes are 0 and the others are as they were.
+-- `clear_bytes` meets its contract: after b turns the first b bytes are 0 and the others are as they were.
 -- Assumes nothing.
 use Prim.Native.Nat.{_-_}
 use lib.ListN.{length, length-set}
 use native.Mathlib.Omega.{arith}
 use borrow.Author.Needs.{needs}
 use Rattle.lists.proofs.Zeros.{Filled, none, more, all}
-use Rattle.slices.proofs.clear_bytes.Statement.{statement}
-use Rattle.slices.proofs.clear_bytes.Tie as tie
+use Rattle.clearing.proofs.clear_bytes.Statement.{statement}
+use Rattle.clearing.proofs.clear_bytes.Tie as tie
 
 abbrev Inv-loop : tie.InvT-loop
 Inv-loop bytes₀ b₀ bytes b = Filled bytes₀ bytes b

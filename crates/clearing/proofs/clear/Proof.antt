@@ -1,12 +1,12 @@
--- `slices::clear` meets its contract: after i turns the first i numbers are 0 and the others are as they were.
+-- `clear` meets its contract: after i turns the first i numbers are 0 and the others are as they were.
 -- Assumes nothing.
 use Prim.Native.Nat.{_-_}
 use lib.ListN.{length, length-set}
 use native.Mathlib.Omega.{arith}
 use borrow.Author.Needs.{needs}
 use Rattle.lists.proofs.Zeros.{Filled, none, more, all}
-use Rattle.slices.proofs.clear.Statement.{statement}
-use Rattle.slices.proofs.clear.Tie as tie
+use Rattle.clearing.proofs.clear.Statement.{statement}
+use Rattle.clearing.proofs.clear.Tie as tie
 
 abbrev Inv-loop : tie.InvT-loop
 Inv-loop area₀ i₀ area i = Filled area₀ area i

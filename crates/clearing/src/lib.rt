@@ -1,0 +1,36 @@
+// Lent areas set to zeros: a function for each width of their entries.
+ghost use mathlib.Core.Path.{_≡_};
+ghost use Rattle.lists.specs.Areas.{cleared};
+
+// Sets every number of the area to 0.
+pub fn clear(area: &mut [u16])
+    ensures { λ _. ⌜ now (area .exit) ≡ cleared (now (area .entry)) ⌝ }
+{
+    let mut i = 0;
+    while i < area.len() {
+        area[i] = 0;
+        i += 1;
+    }
+}
+
+// Sets every word to 0.
+pub fn clear_words(words: &mut [u64])
+    ensures { λ _. ⌜ now (words .exit) ≡ cleared (now (words .entry)) ⌝ }
+{
+    let mut w = 0;
+    while w < words.len() {
+        words[w] = 0;
+        w += 1;
+    }
+}
+
+// Sets every byte to 0.
+pub fn clear_bytes(bytes: &mut [u8])
+    ensures { λ _. ⌜ now (bytes .exit) ≡ cleared (now (bytes .entry)) ⌝ }
+{
+    let mut b = 0;
+    while b < bytes.len() {
+        bytes[b] = 0;
+        b += 1;
+    }
+}
