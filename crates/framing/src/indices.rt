@@ -74,27 +74,28 @@ fn index_column(fanin: &[u16], delay: u16, own: &[u16], fanins: &mut [u16], at: 
     requires { ⌜ (width ≤ mostFanins) × (at + length (now own) * width < length (now fanins) + width) ⌝ }
     ensures { λ _. ⌜ now (fanins .exit) ≡ column (now (fanins .entry)) at width (map (faninIndex delay (now (fanin .entry))) (now (own .entry))) ⌝ }
 {
-    let mut found = Frame(0);
+    let mut begun = 0;
     let mut place = at;
     let mut k = 0;
     while k < own.len() {
-        found = frame_by(fanin, delay, found, Time(own[k]));
-        fanins[place] = found.0;
+        begun = begun_by(fanin, delay, begun, Time(own[k]));
+        let index = Frame(begun as u16);
+        fanins[place] = index.0;
         place += width;
         k += 1;
     }
 }
 
-// The fan-in's last frame that has begun at this time less the delay: `from`, or the one after it.
-fn frame_by(fanin: &[u16], delay: u16, from: Frame, time: Time) -> Frame
+// How many frames of the fan-in behind frame 0 have begun at this time less the delay, which is also the number of the last
+// that has: `from`, or one more. A count, which goes straight into the next turn's place.
+fn begun_by(fanin: &[u16], delay: u16, from: usize, time: Time) -> usize
     requires { ⌜ Span (now fanin) × (delay ≤ mostDelay) ⌝ }
-    requires { ⌜ (from .0 ≤ lastFrame (now fanin) (time .0 - delay)) × (lastFrame (now fanin) (time .0 - delay) ≤ from .0 + 1) ⌝ }
-    ensures { λ r. ⌜ r .0 ≡ lastFrame (now (fanin .entry)) (time .0 - delay) ⌝ }
+    requires { ⌜ (from ≤ lastFrame (now fanin) (time .0 - delay)) × (lastFrame (now fanin) (time .0 - delay) ≤ from + 1) ⌝ }
+    ensures { λ r. ⌜ r ≡ lastFrame (now (fanin .entry)) (time .0 - delay) ⌝ }
 {
-    let next = from.0 as usize + 1;
+    let next = from + 1;
     if fanin.len() <= next {
         return from;
     }
-    let begun = slices::not_above(fanin[next] + delay, time.0);
-    Frame(from.0 + begun as u16)
+    from + slices::not_above(fanin[next] + delay, time.0)
 }

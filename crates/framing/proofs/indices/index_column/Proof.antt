@@ -1,5 +1,5 @@
 -- `index_column` meets its contract: the indices from frame k on are still to be stored; the fan-in's frame at the time of
--- frame k is the one found last, or the next.
+-- frame k is the one begun last, or the next.
 -- Assumes nothing.
 use Prim.Native.Nat.{_+_, _-_, _*_, _≤_, _<_}
 use mathlib.Core.Path.{_≡_, refl}
@@ -10,6 +10,7 @@ use denote.Ref.{now}
 use lib.ListN.{length, getD, drop, length-set}
 use Rattle.method.specs.Indices.{lastFrame, faninIndex}
 use Rattle.method.proofs.Rising.{Starts, test-starts}
+use Rattle.method.proofs.Lasting.{last-within}
 use Rattle.framing.specs.Steps.{column}
 use Rattle.framing.proofs.Indexing.{index-at, walk-start, walk-low, walk-high}
 use Rattle.framing.proofs.Columns.{column-on, column-end, place-in, place-on}
@@ -18,13 +19,13 @@ use Rattle.framing.proofs.indices.index_column.Statement.{statement}
 use Rattle.framing.proofs.indices.index_column.Tie as tie
 
 abbrev Inv-loop : tie.InvT-loop
-Inv-loop fanin delay own fanins₀ at width found₀ place₀ k₀ fanins found place k =
+Inv-loop fanin delay own fanins₀ at width begun₀ place₀ k₀ fanins begun place k =
     (place ≡ at + k * width) × (length fanins ≡ length fanins₀)
-    × (k < length own → found .0 ≤ lastFrame fanin (getD own k 0 - delay)) × (k < length own → lastFrame fanin (getD own k 0 - delay) ≤ found .0 + 1)
+    × (k < length own → begun ≤ lastFrame fanin (getD own k 0 - delay)) × (k < length own → lastFrame fanin (getD own k 0 - delay) ≤ begun + 1)
     × (column fanins₀ at width (map (faninIndex delay fanin) own) ≡ column fanins place width (map (faninIndex delay fanin) (drop k own)))
 
 abbrev μ-loop : tie.MeasureT-loop
-μ-loop fanin delay own fanins₀ at width found₀ place₀ k₀ fanins found place k = length own - k
+μ-loop fanin delay own fanins₀ at width begun₀ place₀ k₀ fanins begun place k = length own - k
 
 start : (s : tie.Start Inv-loop μ-loop) → Starts (now (s .args .fanin))
 start s = test-starts (now (s .args .fanin)) (s .pre .0 .0 .starts)
@@ -35,23 +36,28 @@ loop-holds c =
     let z = walk-start (s .args .delay) (now (s .args .fanin)) (now (s .args .own)) (start s) (s .pre .1 .0 .0 .starts) in
     (rw (zero-mul, add-zero), refl, (λ h. omega arith), (λ h. omega (arith, z)), refl)
 
-mul-t10 : tie.Need-mul-t10 Inv-loop μ-loop
-mul-t10 c = search needs
+mul-t11 : tie.Need-mul-t11 Inv-loop μ-loop
+mul-t11 c = search needs
 
-shared-slice-read-t13 : tie.Need-shared-slice-read-t13 Inv-loop μ-loop
-shared-slice-read-t13 c = search needs
+shared-slice-read-t14 : tie.Need-shared-slice-read-t14 Inv-loop μ-loop
+shared-slice-read-t14 c = search needs
 
-frame-by-requires : tie.Need-frame-by-requires Inv-loop μ-loop
-frame-by-requires c κs =
+begun-by-requires : tie.Need-begun-by-requires Inv-loop μ-loop
+begun-by-requires c κs =
     let s = c .before .before .before .before .before .before in
     let l = c .before .before .loop in
     let h = c .before .loop-test .taken in
     (s .pre .0, (l .inv .2 h, l .inv .3 h))
 
-in-area : (c : tie.After-frame-by Inv-loop μ-loop) → c .before .before .before .loop .place < length (now (c .before .before .before .before .before .before .before .args .fanins))
+in-area : (c : tie.After-begun-by Inv-loop μ-loop) → c .before .before .before .loop .place < length (now (c .before .before .before .before .before .before .before .args .fanins))
 in-area c =
     let s = c .before .before .before .before .before .before .before in
     place-in _ _ _ _ _ _ (c .before .before .before .loop .inv .0) (s .pre .1 .1 .1) (c .before .before .loop-test .taken)
+
+cast-t14 : tie.Need-cast-t14 Inv-loop μ-loop
+cast-t14 c =
+    let s = c .before .before .before .before .before .before .before in
+    omega (arith, c .begun-by .ensures, last-within (now (s .args .fanin)) (getD (now (s .args .own)) (c .before .before .before .loop .k) 0 - s .args .delay) (start s), s .pre .0 .0 .few)
 
 mul-fanins : tie.Need-mul-fanins Inv-loop μ-loop
 mul-fanins c = omega (arith, in-area c)
@@ -72,7 +78,7 @@ loop-again : tie.Need-loop-again Inv-loop μ-loop
 loop-again c =
     let s = c .before .before .before .before .before .before .before in
     let l = c .before .before .before .loop in
-    let f = c .frame-by .ensures in
+    let f = c .begun-by .ensures in
     let rises = s .pre .1 .0 .0 .starts in (
       place-on _ _ _ _ (l .inv .0),
       simp length-set (l .inv .1),
@@ -94,9 +100,10 @@ index-column-spec =
     Inv-loop
     μ-loop
     loop-holds
-    mul-t10
-    shared-slice-read-t13
-    frame-by-requires
+    mul-t11
+    shared-slice-read-t14
+    begun-by-requires
+    cast-t14
     mul-fanins
     slice-write-fanins
     add-place
