@@ -1,20 +1,19 @@
 -- What filling the areas asks and leaves once questions 1 to 11 are passed: there is room, and the frames fit or do not.
 -- Assumes nothing.
-use Prim.Native.Nat.{ℕ, _*_, _≤_}
+use Prim.Native.Nat.{ℕ}
 use mathlib.Core.Path.{_≡_, sym, _∙_}
-use mathlib.Core.Bool.{true}
 use mathlib.Core.List.{List}
 use native.Mathlib.Omega.{arith}
 use lib.ListN.{length}
 use Rattle.method.specs.Frames.{frames}
-use Rattle.circuit.specs.File.{inputsOf, gatesOf, circuitOf}
+use Rattle.circuit.specs.File.{circuitOf}
 use Rattle.circuit.proofs.Parts.{few}
 use Rattle.method.specs.declared.Totals.{Totals}
 use Rattle.layout.specs.declared.Progress.{Progress}
 use Rattle.layout.specs.declared.Progress.the-variants as P
 use Rattle.method.specs.Areas.{Areas, areas}
 use Rattle.method.specs.Layout.{allTimes, laid}
-use Rattle.method.specs.Sums.{fits, totalsOf}
+use Rattle.method.specs.Sums.{totalsOf}
 use Rattle.layout.specs.Steps.{Given, Filled}
 use Rattle.method.proofs.Fitting.{fits-total}
 use Rattle.planner.proofs.Calling.{given-all, plan-room}

@@ -13,7 +13,7 @@ use Rattle.lists.specs.Areas.{padded}
 use Rattle.lists.proofs.Tabled.{from-length, tabulate-snoc}
 use Rattle.lists.proofs.Zeros.{zeros-at}
 use Rattle.lists.proofs.Flat.{flat-snoc, flat-split, flat-even, seam-part, seam-at, seam-room}
-use Rattle.lists.proofs.Padding.{pad-length, pad-least, pad-beyond, pad-more}
+use Rattle.lists.proofs.Padding.{pad-length, pad-more}
 use Rattle.method.specs.Frames.{Frames, inputFrames, noFrames}
 use Rattle.method.specs.Areas.{Areas, areas}
 use Rattle.method.specs.Layout.{allTimes, allInertial, allFanins, pairs, laid, partOf, firstFrame, frameCount}
@@ -175,16 +175,6 @@ pairs-length : (at : ℕ) (fs : List Frames) → length (pairs at fs) ≡ 2 * le
 unfolding pairs
 pairs-length at [] = refl
 pairs-length at (f ∷ fs) = omega (arith, pairs-length (at + length (f .times)) fs)
-
--- a net that is not there has no frames
-pub no-first : (fs : List Frames) {a : Areas} → a ≡ laid fs a → (n : ℕ) → length fs ≤ n → getD (a .directory) (2 * n) 0 ≡ 0
-no-first fs {a} is n h = rw (directory-is fs is) (pad-beyond (length (a .directory)) (pairs 0 fs) (2 * n) (omega (arith, pairs-length 0 fs)))
-
-pub no-count : (fs : List Frames) {a : Areas} → a ≡ laid fs a → (n : ℕ) → length fs ≤ n → getD (a .directory) (2 * n + 1) 0 ≡ 0
-no-count fs {a} is n h = rw (directory-is fs is) (pad-beyond (length (a .directory)) (pairs 0 fs) (2 * n + 1) (omega (arith, pairs-length 0 fs)))
-
-pub times-room : (fs : List Frames) {a : Areas} → a ≡ laid fs a → length (allTimes fs) ≤ length (a .times)
-times-room fs {a} is = rw (times-are fs is) (pad-least (length (a .times)) (allTimes fs))
 
 -- areas in which there was room for a plan are as long as before, so they hold it at their own lengths
 pub laid-kept : (fs : List Frames) {a a′ : Areas} → a′ ≡ laid fs a → Room fs a → length (allInertial fs) ≡ length (allTimes fs) → a′ ≡ laid fs a′

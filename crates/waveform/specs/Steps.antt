@@ -1,11 +1,9 @@
 -- What the crate's own functions promise each other. A reader of the wave program's promise may skip this file.
-use Prim.Native.Nat.{ℕ, _+_, _-_, _/_, _%_, min}
-use mathlib.Core.Path.{_≡_}
+use Prim.Native.Nat.{ℕ, _+_, _/_, _%_}
 use mathlib.Core.Bool.{cond, _&&_}
 use mathlib.Core.List.{List, [], _∷_, _++_, flatten}
 use lib.ListN.{length, getD}
 use lib.Dec.{leb, eqb}
-use lib.Seq.{sets}
 use Rattle.lists.specs.Ladder.{firstNo}
 use Rattle.lists.specs.Tables.{tabulate}
 use Rattle.method.specs.Words.{lane}

@@ -1,4 +1,4 @@
--- `waveform::put` meets its contract. Past the end nothing is written.
+-- `put` meets its contract. Past the end nothing is written.
 -- Assumes nothing.
 use Rattle.text.proofs.Putting.{wrote-past}
 use borrow.Author.Needs.{needs}

@@ -1,4 +1,4 @@
--- `waveform::put_all` meets its contract. After k turns the first k bytes are written.
+-- `put_all` meets its contract. After k turns the first k bytes are written.
 -- Assumes nothing.
 use Prim.Native.Nat.{_-_}
 use native.Mathlib.Omega.{arith}

@@ -1,4 +1,4 @@
--- `waveform::put_digit` meets its contract. A power that n does not reach has no digit.
+-- `put_digit` meets its contract. A power that n does not reach has no digit.
 -- Assumes nothing.
 use Rattle.text.proofs.Spelling.{digit-none, digit-one}
 use borrow.Author.Needs.{needs}

@@ -1,4 +1,4 @@
--- `waveform::put_frame` meets its contract. It is its pieces one behind the other.
+-- `put_frame` meets its contract. It is its pieces one behind the other.
 -- Assumes nothing.
 use Rattle.text.proofs.Spelling.{bit-small, frame-put}
 use borrow.Author.Needs.{needs}

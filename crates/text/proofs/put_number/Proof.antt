@@ -1,4 +1,4 @@
--- `waveform::put_number` meets its contract. It is its digits one behind the other.
+-- `put_number` meets its contract. It is its digits one behind the other.
 -- Assumes nothing.
 use Rattle.text.proofs.Spelling.{number-put}
 use borrow.Author.Needs.{needs}

@@ -1,4 +1,4 @@
--- `waveform::put_refused` meets its contract. It is its pieces one behind the other.
+-- `put_refused` meets its contract. It is its pieces one behind the other.
 -- Assumes nothing.
 use Rattle.text.proofs.Spelling.{refusal-put}
 use borrow.Author.Needs.{needs}
