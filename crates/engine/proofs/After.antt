@@ -41,7 +41,7 @@ use Rattle.engine.specs.After.{Ran, NetParts, After, Alike, AfterRun, ti
 use Rattle.looks.proofs.Seeing.{all-yes}
 use Rattle.engine.proofs.Answering.{plan-first}
 use Rattle.engine.proofs.Accepted.{Held, held, filled-plan}
-use Rattle.evaluation.proofs.Parts.{nets-count, word-each, words-part}
+use Rattle.method.proofs.Parts.{nets-count, word-each, words-part}
 use Rattle.circuit.proofs.Parts.{circuit-within}
 
 -- ---- a look at such parts is answered

@@ -39,7 +39,7 @@ use Rattle.method.proofs.Laying.{pair-first, pair-count, inertial-part, fanin-a
 use Rattle.words.specs.Filtered.{filteredWords}
 use Rattle.evaluation.specs.Steps.{gateWord, target, sourceAt, sources, rawWords, basesOf, gateWords, Ready, Planned, Holds}
 use Rattle.evaluation.proofs.Writing.{raw-length}
-use Rattle.evaluation.proofs.Parts.{nets-count, word-each, words-before}
+use Rattle.method.proofs.Parts.{nets-count, word-each, words-before}
 use Rattle.method.proofs.Prefix.{no-rows}
 
 entry-fits : (k n m e : ℕ) → k < n → e < m → k * m + e < n * m

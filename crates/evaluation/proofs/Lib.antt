@@ -3,6 +3,5 @@ pub mod Tally
 pub mod Writing
 pub mod Driving
 pub mod Placing
-pub mod Parts
 pub mod Valued
 pub mod Gating

@@ -15,6 +15,7 @@ pub mod Tracing
 pub mod Counting
 pub mod Agreement
 pub mod Netwise
+pub mod Parts
 pub mod Bits
 pub mod Lanes
 pub mod Bench

@@ -37,7 +37,7 @@ use Rattle.engine.specs.After.{Ran}
 use Rattle.engine.proofs.Accepted.{held, none}
 use Rattle.engine.proofs.After.{after-runs}
 use Rattle.engine.proofs.Answering.{run-is}
-use Rattle.evaluation.proofs.Parts.{all-words}
+use Rattle.method.proofs.Parts.{all-words}
 use Rattle.waveform.specs.Input.{wordsFrom, beforeWords, afterWords, questions}
 use Rattle.text.specs.Text.{refusal}
 use Rattle.waveform.specs.Lines.{lines}

@@ -15,7 +15,7 @@ use Rattle.method.specs.Frames.{framesAt}
 use Rattle.method.specs.Packed.{laneOf, packedValues}
 use Rattle.method.specs.Traces.{traceAt}
 use Rattle.method.specs.Values.{netCount, allValues}
-use Rattle.evaluation.proofs.Parts.{word-each}
+use Rattle.method.proofs.Parts.{word-each}
 use Rattle.text.specs.Text.{glyph, digitAt, decimal, newline, equals, refusal, frameText}
 use Rattle.waveform.specs.Lines.{line, netLine, lines}
 

@@ -11,14 +11,14 @@ use Rattle.lists.specs.Tables.{tabulateFrom, tabulate}
 use Rattle.lists.specs.Areas.{padded}
 use Rattle.lists.proofs.Flat.{flat-next, flat-at}
 use Rattle.lists.proofs.Tabled.{from-length}
 use Rattle.method.specs.Circuit.{Circuit}
 use Rattle.method.specs.Frames.{Frames, frames, framesAt}
 use Rattle.method.specs.Packed.{packedValues}
 use Rattle.method.proofs.Netwise.{net-by-net}
-use Rattle.method.specs.Areas as planner
+use Rattle.method.specs.Areas.{Areas}
 use Rattle.method.specs.Layout.{allTimes, laid, partOf}
 use Rattle.method.proofs.Laying.{part-at, times-next}
 use Rattle.method.specs.Values.{netCount, allValues}
 
 pub nets-count : (c : Circuit) → length (frames c) ≡ netCount c
 nets-count c = net-by-net c .0 .frames-count
@@ -64,7 +64,7 @@ module _ (c : Circuit) (before after : List ℕ) where
       ∙ ap (λ (l : List ℕ). flatten (tabulate n words) ++ l) (append-assoc (words n) (flatten later) z)
 
   -- and its pair in the directory finds them
-  pub words-part : {p : planner.Areas} → p ≡ laid (frames c) p → (n size : ℕ) → n < netCount c → {area : List ℕ} → area ≡ padded size (allValues c before after)
+  pub words-part : {p : Areas} → p ≡ laid (frames c) p → (n size : ℕ) → n < netCount c → {area : List ℕ} → area ≡ padded size (allValues c before after)
       → partOf (p .directory) area n ≡ packedValues c before after n
   words-part is n size h e =
       let l : n < length (frames c) = rw (nets-count c) h in
