@@ -41,7 +41,7 @@ module _ (c : Circuit) (before after before′ after′ : List ℕ) (L : ℕ) (b
 
 -- ---- Mark accepts again, in areas of the right lengths
 
-marked-again : (file before after : List ℕ) {left : Areas} → engine.Ran file before after left → (list : List Expectation) → listSuits (netCount (circuitOf file)) list ≡ true → (entry : Areas) → areasSuit entry ≡ true
+marked-again : (file before after : List ℕ) {left : Areas} → engine.LeftByRun file before after left → (list : List Expectation) → listSuits (netCount (circuitOf file)) list ≡ true → (entry : Areas) → areasSuit entry ≡ true
     → markOf file before after entry list .answer ≡ accepted (verdict (circuitOf file) before after list)
 marked-again file before after r list y entry s =
     mark-accepts file before after entry list
@@ -54,7 +54,7 @@ one-verdict : {x y : Answer Verdict} {v : Verdict} → x ≡ accepted v → y �
 one-verdict {x} {y} {v} p q = subst (λ (a : Answer Verdict). SameVerdict a y) (sym p) (subst (λ (a : Answer Verdict). SameVerdict (accepted v) a) (sym q) (verdicts v))
 
 pub marked-alike : (file before after : List ℕ) {left : Areas} (file′ before′ after′ : List ℕ) {left′ : Areas} (L : ℕ)
-    → engine.Ran file before after left → engine.Ran file′ before′ after′ left′ → circuitOf file ≡ circuitOf file′
+    → engine.LeftByRun file before after left → engine.LeftByRun file′ before′ after′ left′ → circuitOf file ≡ circuitOf file′
     → AgreeIn L (circuitOf file .inputs) before before′ → AgreeIn L (circuitOf file .inputs) after after′
     → (list : List Expectation) → listSuits (netCount (circuitOf file)) list ≡ true → Every (λ (e : Expectation). e .lane ≡ L) list
     → (entry entry′ : Areas) → areasSuit entry ≡ true → areasSuit entry′ ≡ true

@@ -1,9 +1,10 @@
 -- How a call answers its questions, and what it leaves in its areas.
 use Prim.Native.Nat.{ℕ}
 use mathlib.Core.Path.{_≡_}
-use mathlib.Core.Bool.{true, false}
+use mathlib.Core.Bool.{true, false, cond}
 use mathlib.Core.List.{List, _∷_, _++_}
 use Rattle.lists.specs.Ladder.{Question, Answer, accepted, refused}
+use Rattle.lists.specs.Outcome.{clears}
 use Rattle.lists.specs.Every.{Every}
 
 abbrev pub AllYes : List Question → Type 0
@@ -22,10 +23,11 @@ pub data Answered {R : Type 0} (qs : List Question) (values : R) : Answer R → 
   all-yes : AllYes qs → Answered qs values (accepted values)
   first-no : (q : Question) → FirstFails qs q → Answered qs values (refused (q .number))
 
--- what stands in the areas behind an answer: an acceptance fills them, 13 leaves zeros, every other number writes nothing
+-- what stands in the areas behind an answer: an acceptance fills them, a number that clears, which 13 alone does, leaves
+-- zeros, and every other number writes nothing
 abbrev pub Leaves : {R S : Type 0} → Answer R → S → S → S → S → Type 0
 Leaves (accepted values) filled zeros entry left = left ≡ filled
-Leaves (refused n) filled zeros entry left = (n ≡ 13 → left ≡ zeros) × ((n ≡ 13 → ⊥) → left ≡ entry)
+Leaves (refused n) filled zeros entry left = left ≡ cond (clears n) zeros entry
 
 -- two answers that are the same refusal, or two acceptances
 pub data SameRefusal {R : Type 0} : Answer R → Answer R → Type 0 where

@@ -16,8 +16,9 @@ use Rattle.method.specs.Frames.{frames}
 use Rattle.method.specs.Traces.{traceAt}
 use Rattle.method.specs.Look.{level, changes}
 use Rattle.method.specs.Machine.{machine}
-use Rattle.method.specs.Words.{lane}
+use Rattle.method.specs.Words.{lanes, lane}
 use Rattle.method.specs.Packed.{laneOf}
+use Rattle.method.specs.Netwise.{EveryNet, EveryGate}
 use Rattle.method.specs.Agreement.{changedTimes, potential}
 use Rattle.method.specs.Lanes.{AgreeIn}
 use Rattle.circuit.specs.File.{circuitOf}
@@ -33,7 +34,7 @@ use Rattle.method.specs.Values.{netCount, allValues}
 use Rattle.engine.specs.Questions as engine
 use Rattle.engine.specs.Run.{filled, runOf}
 use Rattle.looks.specs.Look.{lookQuestions, levelOf, countOf}
-use Rattle.engine.specs.After.{timesOf, levelIn, countIn, NetParts, lastTime}
+use Rattle.engine.specs.After.{LeftByRun, timesOf, levelIn, countIn, NetParts, lastTime}
 use Rattle.expectations.specs.declared.Expectation.{Expectation}
 use Rattle.expectations.specs.Suits.{listSuits}
 use Rattle.marking.specs.Questions as marking
@@ -49,7 +50,7 @@ use Rattle.demands.specs.Marks.{Met, MetByMachine, Place}
 -- a question in document 01 fails, the number of the first that does, and finds in every area just what that paper lays
 -- down for it."
 pub record Demand1 : Type 0 where
-  pub read : (file : List ℕ) → Answered (circuit.questions file) (circuit.sizeOf file) (circuit.readOf file)
+  pub read : (file : List ℕ) → Answered (circuit.questions file) (circuit.inputsAndGatesOf file) (circuit.readOf file)
   pub plan : (file : List ℕ) (a : PlanAreas) → Answered (planner.questions file a) (totalsOf (frames (circuitOf file))) (planOf file a .answer)
   pub plan-areas : (file : List ℕ) (a : PlanAreas) → Leaves (planOf file a .answer) (laid (frames (circuitOf file)) a) (planCleared a) a (planOf file a .left)
   pub run : (file before after : List ℕ) (a : Areas)
@@ -72,19 +73,33 @@ pub record Demand1 : Type 0 where
 -- of the potential-change-frame method of the published paper (source document 004), with the corrections that document 01
 -- lists;"
 pub record Demand2Method : Type 0 where
+  -- of every accepted file's circuit the method's equations hold net by net, and none of them looks up a default
+  pub every-net : (file : List ℕ) (s : circuit.InputsAndGates) → circuit.readOf file ≡ accepted s → EveryNet (circuitOf file) × EveryGate (circuitOf file)
+  -- Plan and the calls that run accept only accepted files
+  pub plan-read : (file : List ℕ) (entry left : PlanAreas) (totals : Totals)
+      → outcome (accepted totals) left ≡ planOf file entry → circuit.readOf file ≡ accepted (circuit.inputsAndGatesOf file)
+  pub run-read : (file before after : List ℕ) (left : Areas) → Ran file before after left → circuit.readOf file ≡ accepted (circuit.inputsAndGatesOf file)
+  -- what they leave in the areas, each area at its own length
   pub plan : (file : List ℕ) (entry left : PlanAreas) (totals : Totals)
       → outcome (accepted totals) left ≡ planOf file entry → HoldsPlan (circuitOf file) left
   pub run-plan : (file before after : List ℕ) (left : Areas) → Ran file before after left → HoldsPlan (circuitOf file) (left .plan)
   pub run-values : (file before after : List ℕ) (left : Areas) → Ran file before after left
-      → left .values ≡ padded engine.valuesLength (allValues (circuitOf file) before after)
+      → left .values ≡ padded (length (left .values)) (allValues (circuitOf file) before after)
   -- what Count answers is the number of changes of the lane's own values, and of the machine's level from 1 to 65,535
-  pub counts : (file before after : List ℕ) (left : Areas) → Ran file before after left → (n L : ℕ) → n < netCount (circuitOf file) → L < 64
+  pub counts : (file before after : List ℕ) (left : Areas) → Ran file before after left → (n L : ℕ) → n < netCount (circuitOf file) → L < lanes
       → countIn left n L ≡ accepted (changes (traceAt (circuitOf file) (laneOf L before after) n .values))
-  pub counts-machine : (file before after : List ℕ) (left : Areas) → Ran file before after left → (n L : ℕ) → n < netCount (circuitOf file) → L < 64
+  pub counts-machine : (file before after : List ℕ) (left : Areas) → Ran file before after left → (n L : ℕ) → n < netCount (circuitOf file) → L < lanes
       → countIn left n L ≡ accepted (changedTimes (machine (circuitOf file) (laneOf L before after) n) lastTime)
 
+-- the areas of an accepted Plan, Run or Mark have the lengths that question 10 asks for
+pub record Demand2Lengths : Type 0 where
+  pub plan : (file : List ℕ) (entry left : PlanAreas) (totals : Totals) → outcome (accepted totals) left ≡ planOf file entry → planner.areasSuit left ≡ true
+  pub run : (file before after : List ℕ) (left : Areas) → LeftByRun file before after left → engine.areasSuit left ≡ true
+  pub mark : (file before after : List ℕ) (list : List Expectation) (v : Verdict) (left : Areas) → Marked file before after list v left → engine.areasSuit left ≡ true
+
 -- Document 01 adds: "No pattern bit enters a number, a plan area or these totals." Word lists of equal lengths give the same
--- answer of Run; of Mark the same refusal, or two acceptances; and the same plan areas
+-- answer of Run; of Mark the same refusal, or two acceptances; and the same plan areas. Values of equal lengths give of Level
+-- and of Count the same refusal, or two acceptances
 pub record Demand2Patterns : Type 0 where
   pub run : (file before after before′ after′ : List ℕ) (a : Areas) → length before ≡ length before′ → length after ≡ length after′
       → (runOf file before after a .answer ≡ runOf file before′ after′ a .answer)
@@ -93,6 +108,8 @@ pub record Demand2Patterns : Type 0 where
       → length before ≡ length before′ → length after ≡ length after′
       → SameRefusal (markOf file before after a list .answer) (markOf file before′ after′ a list .answer)
       × (markOf file before after a list .left .plan ≡ markOf file before′ after′ a list .left .plan)
+  pub level : (times values values′ : List ℕ) (L t : ℕ) → length values ≡ length values′ → SameRefusal (levelOf times values L t) (levelOf times values′ L t)
+  pub count : (times values values′ : List ℕ) (L : ℕ) → length values ≡ length values′ → SameRefusal (countOf times values L) (countOf times values′ L)
 
 -- "and a marking passes exactly if every expectation is met at each time it covers."
 pub record Demand2Marking : Type 0 where
@@ -112,7 +129,7 @@ pub record Demand2Marking : Type 0 where
 -- you look, the level is that of the time-by-time machine in document 01, run for that lane's pattern pair by itself."
 pub record Demand3Level : Type 0 where
   pub level : (file before after : List ℕ) (left : Areas) → Ran file before after left
-      → (n L t : ℕ) → n < netCount (circuitOf file) → L < 64 → t ≤ lastTime
+      → (n L t : ℕ) → n < netCount (circuitOf file) → L < lanes → t ≤ lastTime
       → levelIn left n L t ≡ accepted (machine (circuitOf file) (laneOf L before after) n t)
   -- where one looks: the net's pair in the directory names 1 to 64 frames, which lie within the areas
   pub parts : (file before after : List ℕ) (left : Areas) → Ran file before after left → (n : ℕ) → n < netCount (circuitOf file) → NetParts left n
@@ -120,7 +137,7 @@ pub record Demand3Level : Type 0 where
 -- "From time 1 on it differs from the level one unit earlier only at a potential time of the net."
 pub record Demand3Changes : Type 0 where
   pub changes : (file before after : List ℕ) (left : Areas) → Ran file before after left
-      → (n L t : ℕ) → n < netCount (circuitOf file) → L < 64 → suc t ≤ lastTime
+      → (n L t : ℕ) → n < netCount (circuitOf file) → L < lanes → suc t ≤ lastTime
       → levelIn left n L (suc t) ≢ levelIn left n L t → potential (circuitOf file) n (suc t) ≡ true
   -- the net's entries in the times area are its potential times
   pub times : (file before after : List ℕ) (left : Areas) → Ran file before after left
@@ -128,7 +145,7 @@ pub record Demand3Changes : Type 0 where
 
 -- "Two accepted runs of one circuit whose words agree in a lane, whatever the other 63 lanes of each hold,"
 pub record TwoRuns (L : ℕ) (file before after : List ℕ) (left : Areas) (file′ before′ after′ : List ℕ) (left′ : Areas) : Type 0 where
-  pub lane : L < 64
+  pub lane : L < lanes
   pub ran : Ran file before after left
   pub ran′ : Ran file′ before′ after′ left′
   pub one-circuit : circuitOf file ≡ circuitOf file′
@@ -156,6 +173,7 @@ pub record Demand3Alike : Type 0 where
 pub record Demands : Type 0 where
   pub demand-1 : Demand1
   pub demand-2-method : Demand2Method
+  pub demand-2-lengths : Demand2Lengths
   pub demand-2-patterns : Demand2Patterns
   pub demand-2-marking : Demand2Marking
   pub demand-3-level : Demand3Level

@@ -3,13 +3,11 @@ use Prim.Native.Nat.{ℕ}
 use mathlib.Core.Path.{_≡_}
 use mathlib.Core.List.{List}
 use Rattle.lists.specs.Ladder.{accepted}
-use Rattle.lists.specs.Areas.{padded}
 use Rattle.lists.specs.Outcome.{outcome}
 use Rattle.method.specs.Circuit.{Circuit}
 use Rattle.method.specs.Frames.{frames}
-use Rattle.planner.specs.Limits.{directoryLength, timesLength, faninsLength}
 use Rattle.method.specs.Areas as planner
-use Rattle.method.specs.Layout.{pairs, allTimes, allInertial, allFanins}
+use Rattle.method.specs.Layout.{laid}
 use Rattle.engine.specs.Areas.{Areas}
 use Rattle.engine.specs.After as engine
 use Rattle.expectations.specs.declared.Expectation.{Expectation}
@@ -24,13 +22,10 @@ pub record Marked (file before after : List ℕ) (list : List Expectation) (v : 
 -- `left` is what an accepted run of the file with these words leaves in the areas: an accepted Run, or an accepted Mark with
 -- whatever list and verdict
 pub data Ran (file before after : List ℕ) (left : Areas) : Type 0 where
-  by-run : engine.Ran file before after left → Ran file before after left
+  by-run : engine.LeftByRun file before after left → Ran file before after left
   by-mark : (list : List Expectation) (v : Verdict) → Marked file before after list v left → Ran file before after left
 
 -- the four plan areas hold the frames of a circuit: a pair a net, the times and the inertial indices in net order, the
--- fan-in indices by gate, by frame, by fan-in; the rest of each area is 0
-pub record HoldsPlan (c : Circuit) (left : planner.Areas) : Type 0 where
-  pub directory : left .directory ≡ padded directoryLength (pairs 0 (frames c))
-  pub times : left .times ≡ padded timesLength (allTimes (frames c))
-  pub inertial : left .inertial ≡ padded timesLength (allInertial (frames c))
-  pub fanins : left .fanins ≡ padded faninsLength (allFanins (frames c))
+-- fan-in indices by gate, by frame, by fan-in; the rest of each area, whatever its length, is 0
+abbrev pub HoldsPlan : Circuit → planner.Areas → Type 0
+HoldsPlan c left = left ≡ laid (frames c) left

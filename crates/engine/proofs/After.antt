@@ -17,7 +17,7 @@ use Rattle.method.specs.Frames.{frames, framesAt}
 use Rattle.method.specs.Traces.{traceAt}
 use Rattle.method.specs.Machine.{machine}
 use Rattle.method.specs.Look.{level, changes}
-use Rattle.method.specs.Words.{lane}
+use Rattle.method.specs.Words.{lanes, lane}
 use Rattle.method.specs.Packed.{laneOf, packedValues}
 use Rattle.method.specs.Agreement.{levelAt, changedTimes}
 use Rattle.method.specs.Lanes.{laneLevel, laneCount, AgreeIn}
@@ -37,7 +37,7 @@ use Rattle.planner.specs.Plan.{planOf}
 use Rattle.engine.specs.Questions.{valuesLength, wordsSuit}
 use Rattle.engine.specs.Run.{runLeft, runOf}
 use Rattle.looks.specs.Look.{lookQuestions, levelOf, countOf}
-use Rattle.engine.specs.After.{Ran, NetParts, After, Alike, AfterRun, timesOf, valuesOf, levelIn, countIn, lastTime}
+use Rattle.engine.specs.After.{LeftByRun, NetParts, After, Alike, AfterRun, timesOf, valuesOf, levelIn, countIn, lastTime}
 use Rattle.looks.proofs.Seeing.{all-yes}
 use Rattle.engine.proofs.Answering.{plan-first}
 use Rattle.engine.proofs.Accepted.{Held, held, filled-plan}
@@ -46,7 +46,7 @@ use Rattle.circuit.proofs.Parts.{circuit-within}
 
 -- ---- a look at such parts is answered
 
-module _ (times values : List ℕ) (L : ℕ) (same : length times ≡ length values) (some : 1 ≤ length times) (few : length times ≤ mostNetFrames) (rise : startAndRise times ≡ true) (h : L < 64) where
+module _ (times values : List ℕ) (L : ℕ) (same : length times ≡ length values) (some : 1 ≤ length times) (few : length times ≤ mostNetFrames) (rise : startAndRise times ≡ true) (h : L < lanes) where
   no-fault : firstNo (lookQuestions times values L) ≡ 0
   no-fault = sym (all-yes times values L same (λ z. omega arith) few (sym rise) refl (omega arith))
 
@@ -80,7 +80,7 @@ module _ (file before after : List ℕ) {a : Areas} (b : Held file before after 
   times-are = times-part (frames c) (b .plan-is) n there
 
   pub values-are : valuesOf a n ≡ packedValues c before after n
-  values-are = words-part c before after (b .plan-is) n (b .size) h (b .values-are)
+  values-are = words-part c before after (b .plan-is) n (length (a .values)) h (b .values-are)
 
   inside : firstFrame (a .plan .directory) n + frameCount (a .plan .directory) n ≤ 2048
   inside = omega (arith, pair-first (frames c) (b .plan-is) n there, count-is, frames-end (frames c) n there, fits-total (frames c) (b .fit))
@@ -88,7 +88,7 @@ module _ (file before after : List ℕ) {a : Areas} (b : Held file before after 
   net-parts : NetParts a n
   net-parts = record { some-frame = rw count-is frames-some; few-frames = rw count-is frames-few; inside = inside }
 
-  module _ (L : ℕ) (l : L < 64) where
+  module _ (L : ℕ) (l : L < lanes) where
     level-lane : (t : ℕ) → levelIn a n L t ≡ accepted (laneLevel L c before after n t)
     level-lane t =
         rw (times-are, values-are)
@@ -118,7 +118,7 @@ module _ (file before after : List ℕ) {a : Areas} (b : Held file before after 
         λ e. sym (agreement .level-is-machine c s n (suc t)) ∙ e ∙ agreement .level-is-machine c s n t in
         rw times-are (agreement .changes-at-times c s n t (λ e. d (level-is (suc t) ∙ ap accepted (same e) ∙ sym (level-is t))))
 
-after-run : (file before after : List ℕ) (a : Areas) → Ran file before after a → After file before after a
+after-run : (file before after : List ℕ) (a : Areas) → LeftByRun file before after a → After file before after a
 after-run file before after a r =
     let b = held file before after r in
     record {
@@ -135,7 +135,7 @@ after-run file before after a r =
 
 -- ---- two runs
 
-runs-alike : (file file′ before after before′ after′ : List ℕ) (a a′ : Areas) (L : ℕ) → L < 64 → Ran file before after a → Ran file′ before′ after′ a′ → circuitOf file ≡ circuitOf file′
+runs-alike : (file file′ before after before′ after′ : List ℕ) (a a′ : Areas) (L : ℕ) → L < lanes → LeftByRun file before after a → LeftByRun file′ before′ after′ a′ → circuitOf file ≡ circuitOf file′
     → AgreeIn L (circuitOf file .inputs) before before′ → AgreeIn L (circuitOf file .inputs) after after′ → Alike (circuitOf file) L a a′
 runs-alike file file′ before after before′ after′ a a′ L l r r′ same p q =
     let b = held file before after r in

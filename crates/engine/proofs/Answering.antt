@@ -10,13 +10,13 @@ use borrow.Author.Tests.{eq-eqb}
 use Rattle.lists.specs.Ladder.{Question, _orElse_, firstNo, Answer, unless}
 use Rattle.lists.specs.Outcome.{Outcome, outcome}
 use Rattle.lists.specs.Areas.{cleared, padded}
-use Rattle.lists.proofs.Ladders.{Numbered, numbered-append, numbered-more, first, first-here, first-most, firstNo-append, ask-yes, ask-no, all-asked, unless-none, unless-some}
-use Rattle.lists.proofs.Leaving.{left-none, left-13, left-other}
+use Rattle.lists.proofs.Ladders.{isNumber, numbered, leavesAlone, quiet, each-append, quiet-numbered, first, first-here, firstNo-append, ask-yes, ask-no, all-asked, unless-none, unless-some}
+use Rattle.lists.proofs.Leaving.{left-none, left-clear, left-quiet}
 use Rattle.method.specs.Frames.{frames}
 use Rattle.method.specs.Values.{allValues}
 use Rattle.circuit.specs.File.{inputsOf, circuitOf}
 use Rattle.circuit.specs.Questions as reader
-use Rattle.circuit.proofs.Gated.{questions-numbered}
+use Rattle.circuit.proofs.Gated.{questions-quiet, questions-numbered}
 use Rattle.method.specs.declared.Totals.{Totals}
 use Rattle.layout.specs.declared.Progress.{Progress}
 use Rattle.layout.specs.declared.Progress.the-variants as P
@@ -35,22 +35,21 @@ use Rattle.engine.specs.Steps.{Asked}
 -- ---- the ladder
 
 module _ (file : List ℕ) (a : Areas) (before after : ℕ) where
-  pub first-numbered : Numbered 11 (firstQuestions file a before after)
+  -- none of 1 to 11 clears the areas
+  pub first-quiet : quiet (firstQuestions file a before after) ≡ true
   unfolding firstQuestions
-  first-numbered =
-      numbered-append 11 (reader.questions file) (ownQuestions (inputsOf file) a before after)
-      (numbered-more 9 11 (omega arith) (reader.questions file) (questions-numbered file))
-      (omega arith, omega arith, (omega arith, omega arith, tt))
+  first-quiet = each-append leavesAlone (reader.questions file) (ownQuestions (inputsOf file) a before after) (questions-quiet file) refl
 
-  pub all-numbered : Numbered 13 (questions file a before after)
+  pub first-numbered : numbered (firstQuestions file a before after) ≡ true
+  first-numbered = quiet-numbered (firstQuestions file a before after) first-quiet
+
+  pub all-numbered : numbered (questions file a before after) ≡ true
   unfolding questions
-  all-numbered =
-      numbered-append 13 (firstQuestions file a before after) (lastQuestion file)
-      (numbered-more 11 13 (omega arith) (firstQuestions file a before after) first-numbered) (omega arith, omega arith, tt)
+  all-numbered = each-append isNumber (firstQuestions file a before after) (lastQuestion file) first-numbered refl
 
   pub joined : firstNo (questions file a before after) ≡ first (firstNo (firstQuestions file a before after)) (firstNo (lastQuestion file))
   unfolding questions
-  joined = firstNo-append 11 (firstQuestions file a before after) (lastQuestion file) first-numbered
+  joined = firstNo-append (firstQuestions file a before after) (lastQuestion file) first-numbered
 
 -- where the values and the word lists have their lengths, the first "no" is Plan's
 own-alike : (suits : Bool) {values words : Bool} → values ≡ true → words ≡ true → (qs : List Question) → firstNo ((suits && values orElse 10) ∷ (words orElse 11) ∷ qs) ≡ firstNo ((suits orElse 10) ∷ qs)
@@ -63,9 +62,9 @@ pub plan-first : (file : List ℕ) (a : Areas) (before after : ℕ) → length (
 unfolding questions firstQuestions areasSuit plan.questions
 plan-first file a before after v w =
     ap firstNo (append-assoc (reader.questions file) (ownQuestions (inputsOf file) a before after) (lastQuestion file))
-    ∙ firstNo-append 9 (reader.questions file) _ (questions-numbered file)
+    ∙ firstNo-append (reader.questions file) _ (questions-numbered file)
     ∙ ap (first (firstNo (reader.questions file))) (own-alike (plan.areasSuit (a .plan)) (eq-eqb _ _ v) w (lastQuestion file))
-    ∙ sym (firstNo-append 9 (reader.questions file) (plan.ownQuestions file (a .plan)) (questions-numbered file))
+    ∙ sym (firstNo-append (reader.questions file) (plan.ownQuestions file (a .plan)) (questions-numbered file))
 
 module _ (file before after : List ℕ) (a : Areas) where
   -- what the first "no" leaves
@@ -92,8 +91,8 @@ module _ (file before after : List ℕ) (a : Areas) where
   -- 1 to 11: nothing is written
   pub run-no : {n : ℕ} → n ≡ firstNo (firstQuestions file a (length before) (length after)) → (n ≡ 0 → ⊥) → outcome (onPaper (Q.Refused n)) a ≡ runOf file before after a
   run-no {n} e h =
-      let most = first-most 11 (firstQuestions file a (length before) (length after)) (first-numbered file a (length before) (length after)) in
-      refusal (joined file a (length before) (length after) ∙ rw (← e) (first-here n _ h)) h (sym (left-other _ _ a n h (λ z. omega (arith, most, e))))
+      refusal (joined file a (length before) (length after) ∙ rw (← e) (first-here n _ h)) h
+      (sym (left-quiet _ _ a (firstQuestions file a (length before) (length after)) (first-quiet file a (length before) (length after)) e h))
 
   -- 13
   module _ (h : Asked file a (length before) (length after)) where
@@ -101,7 +100,7 @@ module _ (file before after : List ℕ) (a : Areas) where
     at-last = joined file a (length before) (length after) ∙ rw (h .none)
 
     run-13 : fits (frames (circuitOf file)) ≡ false → outcome (onPaper (Q.Refused 13)) (allCleared a) ≡ runOf file before after a
-    run-13 n = refusal (at-last ∙ ask-no (fits (frames (circuitOf file))) 13 [] n) (λ z. omega arith) (sym (left-13 _ _ a))
+    run-13 n = refusal (at-last ∙ ask-no (fits (frames (circuitOf file))) 13 [] n) (λ z. omega arith) (sym (left-clear _ _ a 13 (λ z. omega arith) refl))
 
     run-yes : fits (frames (circuitOf file)) ≡ true → outcome (onPaper (Q.Planned (totalsOf (frames (circuitOf file))))) (filled (circuitOf file) before after a) ≡ runOf file before after a
     unfolding onPaper

@@ -58,18 +58,18 @@ module _ (inputs : ℕ) (d t i f v : List ℕ) (before after : ℕ) {ok : Bool} 
 module _ (file : List ℕ) (a : Areas) (before after : ℕ) where
   joined : firstNo (firstQuestions file a before after) ≡ first (firstNo (reader.questions file)) (firstNo (ownQuestions (inputsOf file) a before after))
   unfolding firstQuestions
-  joined = firstNo-append 9 (reader.questions file) (ownQuestions (inputsOf file) a before after) (questions-numbered file)
+  joined = firstNo-append (reader.questions file) (ownQuestions (inputsOf file) a before after) (questions-numbered file)
 
   refusal : {n : ℕ} → n ≡ firstNo (firstQuestions file a before after) → (n ≡ 0 → ⊥) → reader.onPaper (R.Refused n) ≡ questionsOf file a before after
   unfolding questionsOf reader.onPaper
-  refusal {n} e some = sym (rw (← e) (unless-some n (reader.sizeOf file) some))
+  refusal {n} e some = sym (rw (← e) (unless-some n (reader.inputsAndGatesOf file) some))
 
   module _ {r : Reading} (f : reader.onPaper r ≡ reader.readOf file) where
     pub read-no : {n : ℕ} → r ≡ R.Refused n → reader.onPaper (R.Refused n) ≡ questionsOf file a before after
     unfolding reader.onPaper reader.readOf
     read-no {n} e =
-        let g : unless (firstNo (reader.questions file)) (reader.sizeOf file) ≡ refused n = sym f ∙ rw e in
-        let q = refused-some (firstNo (reader.questions file)) (reader.sizeOf file) g in
+        let g : unless (firstNo (reader.questions file)) (reader.inputsAndGatesOf file) ≡ refused n = sym f ∙ rw e in
+        let q = refused-some (firstNo (reader.questions file)) (reader.inputsAndGatesOf file) g in
         let some : n ≡ 0 → ⊥ = λ z. omega (arith, q .1) in
         refusal (sym (joined ∙ rw (q .0) (first-here n _ some))) some
 
@@ -81,40 +81,40 @@ module _ (file : List ℕ) (a : Areas) (before after : ℕ) where
       own-is : n ≡ firstNo (firstQuestions file a before after)
       unfolding reader.readOf
       own-is =
-          let q : firstNo (reader.questions file) ≡ 0 = accepted-none (firstNo (reader.questions file)) (reader.sizeOf file) answered .0 in
+          let q : firstNo (reader.questions file) ≡ 0 = accepted-none (firstNo (reader.questions file)) (reader.inputsAndGatesOf file) answered .0 in
           is ∙ rw (inputs-are file answered) (sym (joined ∙ rw q))
 
       pub own-no : (n ≡ 0 → ⊥) → reader.onPaper (R.Refused n) ≡ questionsOf file a before after
       own-no some = refusal own-is some
 
       pub own-none : n ≡ 0 → reader.onPaper (R.Accepted inputs gates) ≡ questionsOf file a before after
-      unfolding questionsOf reader.onPaper reader.sizeOf
-      own-none z = sym (unless-none _ (reader.sizeOf file) (sym own-is ∙ z) ∙ rw (← inputs-are file answered, ← gates-are file answered))
+      unfolding questionsOf reader.onPaper reader.inputsAndGatesOf
+      own-none z = sym (unless-none _ (reader.inputsAndGatesOf file) (sym own-is ∙ z) ∙ rw (← inputs-are file answered, ← gates-are file answered))
 
   -- what their answer says
   module _ {r : Reading} (f : reader.onPaper r ≡ questionsOf file a before after) where
     pub asked-no : {n : ℕ} → r ≡ R.Refused n → (n ≡ firstNo (firstQuestions file a before after)) × (n ≡ 0 → ⊥)
     unfolding reader.onPaper questionsOf
     asked-no {n} e =
-        let g : unless (firstNo (firstQuestions file a before after)) (reader.sizeOf file) ≡ refused n = sym f ∙ rw e in
-        let q = refused-some (firstNo (firstQuestions file a before after)) (reader.sizeOf file) g in
+        let g : unless (firstNo (firstQuestions file a before after)) (reader.inputsAndGatesOf file) ≡ refused n = sym f ∙ rw e in
+        let q = refused-some (firstNo (firstQuestions file a before after)) (reader.inputsAndGatesOf file) g in
         (sym (q .0), λ z. omega (arith, q .1))
 
     module _ {inputs gates : ℕ} (e : r ≡ R.Accepted inputs gates) where
-      yes : (firstNo (firstQuestions file a before after) ≡ 0) × (reader.sizeOf file ≡ record { inputs = inputs; gates = gates })
+      yes : (firstNo (firstQuestions file a before after) ≡ 0) × (reader.inputsAndGatesOf file ≡ record { inputs = inputs; gates = gates })
       unfolding reader.onPaper questionsOf
-      yes = accepted-none (firstNo (firstQuestions file a before after)) (reader.sizeOf file) (sym f ∙ rw e)
+      yes = accepted-none (firstNo (firstQuestions file a before after)) (reader.inputsAndGatesOf file) (sym f ∙ rw e)
 
       pub asked-none : firstNo (firstQuestions file a before after) ≡ 0
       asked-none = yes .0
 
       pub asked-inputs : inputs ≡ inputsOf file
-      unfolding reader.sizeOf
-      asked-inputs = sym (ap (λ (s : reader.Size). s .inputs) (yes .1))
+      unfolding reader.inputsAndGatesOf
+      asked-inputs = sym (ap (λ (s : reader.InputsAndGates). s .inputs) (yes .1))
 
       pub asked-gates : gates ≡ gatesOf file
-      unfolding reader.sizeOf
-      asked-gates = sym (ap (λ (s : reader.Size). s .gates) (yes .1))
+      unfolding reader.inputsAndGatesOf
+      asked-gates = sym (ap (λ (s : reader.InputsAndGates). s .gates) (yes .1))
 
 -- ---- all answered yes
 
@@ -145,10 +145,10 @@ passed file a before after h =
 -- so a run may follow
 pub asked-yes : (file : List ℕ) (a : Areas) (before after : ℕ) {r : Reading} → reader.onPaper r ≡ questionsOf file a before after → {inputs gates : ℕ} → r ≡ R.Accepted inputs gates
     → Asked file a before after × (inputs ≡ inputsOf file) × (gates ≡ gatesOf file)
-unfolding reader.readOf reader.sizeOf
+unfolding reader.readOf reader.inputsAndGatesOf
 asked-yes file a before after f e =
     let z = asked-none file a before after f e in
-    (record { read = unless-none _ (reader.sizeOf file) (passed file a before after z .reads); none = z }, asked-inputs file a before after f e, asked-gates file a before after f e)
+    (record { read = unless-none _ (reader.inputsAndGatesOf file) (passed file a before after z .reads); none = z }, asked-inputs file a before after f e, asked-gates file a before after f e)
 
 -- of the areas only the lengths are asked about: others that suit pass with the same file and lists
 pub passed-again : (file : List ℕ) (a a′ : Areas) (before after : ℕ) → firstNo (firstQuestions file a before after) ≡ 0 → areasSuit a′ ≡ true → firstNo (firstQuestions file a′ before after) ≡ 0

@@ -14,6 +14,7 @@ use Rattle.method.specs.Frames.{framesAt}
 use Rattle.method.specs.Traces.{traceAt}
 use Rattle.method.specs.Look.{changes}
 use Rattle.method.specs.Machine.{machine}
+use Rattle.method.specs.Words.{lanes}
 use Rattle.method.specs.Packed.{laneOf, packedValues}
 use Rattle.method.specs.Agreement.{changedTimes, potential}
 use Rattle.method.specs.Lanes.{AgreeIn}
@@ -29,7 +30,7 @@ use Rattle.engine.specs.Run.{runOf}
 use Rattle.looks.specs.Look.{levelOf, countOf}
 
 -- `left` is what an accepted Run of the file with these words leaves: it answered totals, and its areas held something
-pub record Ran (file before after : List ℕ) (left : Areas) : Type 0 where
+pub record LeftByRun (file before after : List ℕ) (left : Areas) : Type 0 where
   pub totals : Totals
   pub entry : Areas
   pub ran : outcome (accepted totals) left ≡ runOf file before after entry
@@ -66,15 +67,15 @@ pub record After (file before after : List ℕ) (a : Areas) : Type 0 where
   pub values-are : (n : ℕ) → n < netCount (circuitOf file) → valuesOf a n ≡ packedValues (circuitOf file) before after n
   -- Level answers on these parts, and what it answers is the machine's level, run for the lane's pattern pair by itself; at
   -- every time t, so at those from 0 to 65,535
-  pub level-is-machine : (n L t : ℕ) → n < netCount (circuitOf file) → L < 64
+  pub level-is-machine : (n L t : ℕ) → n < netCount (circuitOf file) → L < lanes
       → levelIn a n L t ≡ accepted (machine (circuitOf file) (laneOf L before after) n t)
   -- Count answers the number of changes of the lane's own values, which is the number of times from 1 to 65,535 at which
   -- the machine's level differs from that one unit earlier
-  pub count-is-own : (n L : ℕ) → n < netCount (circuitOf file) → L < 64 → countIn a n L ≡ accepted (changes (traceAt (circuitOf file) (laneOf L before after) n .values))
-  pub count-is-machine : (n L : ℕ) → n < netCount (circuitOf file) → L < 64
+  pub count-is-own : (n L : ℕ) → n < netCount (circuitOf file) → L < lanes → countIn a n L ≡ accepted (changes (traceAt (circuitOf file) (laneOf L before after) n .values))
+  pub count-is-machine : (n L : ℕ) → n < netCount (circuitOf file) → L < lanes
       → countIn a n L ≡ accepted (changedTimes (machine (circuitOf file) (laneOf L before after) n) lastTime)
   -- where Level's answers at t + 1 and at t differ, t + 1 is among the net's entries in the times area
-  pub changes-at-times : (n L t : ℕ) → n < netCount (circuitOf file) → L < 64
+  pub changes-at-times : (n L t : ℕ) → n < netCount (circuitOf file) → L < lanes
       → levelIn a n L (suc t) ≢ levelIn a n L t → among (suc t) (timesOf a n) ≡ true
   -- and these entries are the net's potential times
   pub times-are-potential : (n t : ℕ) → n < netCount (circuitOf file) → among t (timesOf a n) ≡ potential (circuitOf file) n t
@@ -85,9 +86,9 @@ pub record Alike (c : Circuit) (L : ℕ) (a a′ : Areas) : Type 0 where
   pub same-count : (n : ℕ) → n < netCount c → countIn a n L ≡ countIn a′ n L
 
 pub record AfterRun : Type 0 where
-  pub after-run : (file before after : List ℕ) (a : Areas) → Ran file before after a → After file before after a
-  pub runs-alike : (file file′ before after before′ after′ : List ℕ) (a a′ : Areas) (L : ℕ) → L < 64
-      → Ran file before after a → Ran file′ before′ after′ a′ → circuitOf file ≡ circuitOf file′
+  pub after-run : (file before after : List ℕ) (a : Areas) → LeftByRun file before after a → After file before after a
+  pub runs-alike : (file file′ before after before′ after′ : List ℕ) (a a′ : Areas) (L : ℕ) → L < lanes
+      → LeftByRun file before after a → LeftByRun file′ before′ after′ a′ → circuitOf file ≡ circuitOf file′
       → AgreeIn L (circuitOf file .inputs) before before′ → AgreeIn L (circuitOf file .inputs) after after′ → Alike (circuitOf file) L a a′
   -- no pattern bit enters a number, a plan area or the totals: word lists of equal lengths give the same answer and the
   -- same four plan areas

@@ -30,8 +30,8 @@ unfoldable pub firstQuestions : List ℕ → Areas → ℕ → ℕ → List Ques
 firstQuestions file a before after = reader.questions file ++ ownQuestions (inputsOf file) a before after
 
 -- what these answer by themselves, for calls that ask more before they run: the number of the first "no", or I and G
-unfoldable pub questionsOf : List ℕ → Areas → ℕ → ℕ → Answer reader.Size
-questionsOf file a before after = answer (firstQuestions file a before after) (reader.sizeOf file)
+unfoldable pub questionsOf : List ℕ → Areas → ℕ → ℕ → Answer reader.InputsAndGates
+questionsOf file a before after = answer (firstQuestions file a before after) (reader.inputsAndGatesOf file)
 
 -- and 13: Has every net at most 64 frames, and all nets together at most 2,048?
 unfoldable pub questions : List ℕ → Areas → ℕ → ℕ → List Question

@@ -11,8 +11,8 @@ use lib.ListN.{length, getD, take, drop, set, drop-of-length-le}
 use lib.Seq.{drop-cons}
 use borrow.Author.Tests.{le-ltb, ne-eqb}
 use Rattle.lists.proofs.Choices.{or-swap}
-use Rattle.method.specs.Times.{insert, rising, shifted, gateTimes, among}
-use Rattle.method.proofs.Rising.{Rise, Starts, starts-above, rise-ext, insert-rise, insert-among, Above, among-append, rising-rise, rising-among, all-shifted-above}
+use Rattle.method.specs.Times.{insertOnce, rising, shifted, gateTimes, among}
+use Rattle.method.proofs.Rising.{Rise, Starts, starts-above, rise-ext, insertOnce-rise, insertOnce-among, Above, among-append, rising-rise, rising-among, all-shifted-above}
 use Rattle.gathering.specs.Steps.{into}
 
 -- the later times of each of these nets, plus d, inserted one after the other
@@ -23,7 +23,7 @@ gather d (ss ∷ rows) ts = gather d rows (into d (drop 1 ss) ts)
 -- ---- the turns of the loops
 
 module _ (ss : List ℕ) (d k : ℕ) (ts : List ℕ) {w : List ℕ} (h : w ≡ into d (drop k ss) ts) where
-  pub into-on : k < length ss → w ≡ into d (drop (k + 1) ss) (insert (getD ss k 0 + d) ts)
+  pub into-on : k < length ss → w ≡ into d (drop (k + 1) ss) (insertOnce (getD ss k 0 + d) ts)
   unfolding into
   into-on b = h ∙ rw (drop-cons ss k 0 b, add-one k)
 
@@ -50,20 +50,20 @@ one-in (x ∷ xs) h = refl
 into-zero : (d : ℕ) (ss ts : List ℕ) → Above 0 ss → into d ss (0 ∷ ts) ≡ 0 ∷ into d ss ts
 unfolding into
 into-zero d [] ts a = refl
-into-zero d (s ∷ ss) ts a = rw (le-ltb (s + d) 0 (omega arith), ne-eqb (s + d) 0 (omega arith)) (into-zero d ss (insert (s + d) ts) (a .1))
+into-zero d (s ∷ ss) ts a = rw (le-ltb (s + d) 0 (omega arith), ne-eqb (s + d) 0 (omega arith)) (into-zero d ss (insertOnce (s + d) ts) (a .1))
 
 into-rise : (d : ℕ) (ss ts : List ℕ) → Above 0 ss → Rise 0 ts → Rise 0 (into d ss ts)
 unfolding into
 into-rise d [] ts a r = r
-into-rise d (s ∷ ss) ts a r = into-rise d ss (insert (s + d) ts) (a .1) (insert-rise 0 (s + d) ts (omega arith) r)
+into-rise d (s ∷ ss) ts a r = into-rise d ss (insertOnce (s + d) ts) (a .1) (insertOnce-rise 0 (s + d) ts (omega arith) r)
 
 into-among : (x d : ℕ) (ss ts : List ℕ) → Above 0 ss → among x (into d ss ts) ≡ among x (shifted d ss) || among x ts
 unfolding into
 into-among x d [] ts a = refl
 into-among x d (zero ∷ ss) ts a = absurd (omega arith)
 into-among x d (suc s ∷ ss) ts a =
-    into-among x d ss (insert (suc s + d) ts) (a .1)
-    ∙ rw (insert-among x (suc s + d) ts)
+    into-among x d ss (insertOnce (suc s + d) ts) (a .1)
+    ∙ rw (insertOnce-among x (suc s + d) ts)
     (or-swap (among x (shifted d ss)) (eqb x (suc s + d)) (among x ts) ∙ sym (or-assoc (eqb x (suc s + d)) (among x (shifted d ss)) (among x ts)))
 
 -- ---- all fan-ins

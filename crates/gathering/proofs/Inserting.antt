@@ -13,7 +13,7 @@ use borrow.Author.Tests.{lt-ltb, le-ltb, le-leb, lt-leb, eq-eqb, ne-eqb}
 use Rattle.lists.specs.Front.{leading}
 use Rattle.lists.proofs.Choices.{order, less, same, more, tri}
 use Rattle.lists.proofs.Leading.{leading-most, leading-skip}
-use Rattle.method.specs.Times.{insert}
+use Rattle.method.specs.Times.{insertOnce}
 use Rattle.gathering.specs.Steps.{Inserted}
 
 -- ---- the numbers from place i up to count stand one place on
@@ -46,7 +46,7 @@ module _ (row : List ℕ) (count : ℕ) (fits : count < length row) where
 
 -- ---- a list with suc e put in: its place is behind the numbers at the front that are at most e
 
-put-in : (e : ℕ) (l : List ℕ) → (getD l (leading e l) 0 ≡ suc e → leading e l < length l → ⊥) → insert (suc e) l ≡ take (leading e l) l ++ (suc e ∷ drop (leading e l) l)
+put-in : (e : ℕ) (l : List ℕ) → (getD l (leading e l) 0 ≡ suc e → leading e l < length l → ⊥) → insertOnce (suc e) l ≡ take (leading e l) l ++ (suc e ∷ drop (leading e l) l)
 unfolding leading
 put-in e [] n = refl
 put-in e (x ∷ xs) n =
@@ -58,7 +58,7 @@ put-in e (x ∷ xs) n =
     ]
 
 -- it is there already
-there : (e : ℕ) (l : List ℕ) → getD l (leading e l) 0 ≡ suc e → leading e l < length l → insert (suc e) l ≡ l
+there : (e : ℕ) (l : List ℕ) → getD l (leading e l) 0 ≡ suc e → leading e l < length l → insertOnce (suc e) l ≡ l
 unfolding leading
 there e [] h l = absurd (omega arith)
 there e (x ∷ xs) h l =
@@ -72,7 +72,7 @@ there e (x ∷ xs) h l =
     ]
 
 -- what is inserted leaves those before its place at the front
-place-later : (f e : ℕ) → f ≤ e → (l : List ℕ) → leading f l ≤ leading e (insert (suc f) l)
+place-later : (f e : ℕ) → f ≤ e → (l : List ℕ) → leading f l ≤ leading e (insertOnce (suc f) l)
 unfolding leading
 place-later f e h [] = omega arith
 place-later f e h (x ∷ xs) =
@@ -108,8 +108,8 @@ module _ (row : List ℕ) (count t : ℕ) (fits : count < length row) (pos : 1 �
 
   pub insert-kept : p < count → getD row p 0 ≡ t → Inserted row row count t count
   insert-kept l e =
-      let same : insert t (take count row) ≡ take count row =
-      ap (λ (x : ℕ). insert x (take count row)) t-is ∙ there (t - 1) (take count row) (rw (← h, getD-take count row p 0 l) (e ∙ t-is)) (rw (← h, n) l) in
+      let same : insertOnce t (take count row) ≡ take count row =
+      ap (λ (x : ℕ). insertOnce x (take count row)) t-is ∙ there (t - 1) (take count row) (rw (← h, getD-take count row p 0 l) (e ∙ t-is)) (rw (← h, n) l) in
       record { count-is = rw same (sym n); row-is = rw same (sym (take-append-drop count row)); most = omega arith }
 
   pub insert-put : (p < count → getD row p 0 ≡ t → ⊥) → {a : List ℕ} → a ≡ moved row count p → Inserted row (set a p t) count t (count + 1)
@@ -118,8 +118,8 @@ module _ (row : List ℕ) (count t : ℕ) (fits : count < length row) (pos : 1 �
       let rest = drop p (take count row) ++ drop (count + 1) row in
       let front : take p (take count row) ≡ take p row = take-take p count row l in
       let size : length (take p row) ≡ p = length-take-le p row (omega arith) in
-      let new : insert t (take count row) ≡ take p (take count row) ++ (t ∷ drop p (take count row)) =
-      ap (λ (x : ℕ). insert x (take count row)) t-is
+      let new : insertOnce t (take count row) ≡ take p (take count row) ++ (t ∷ drop p (take count row)) =
+      ap (λ (x : ℕ). insertOnce x (take count row)) t-is
       ∙ rw (h)
       (put-in (t - 1) (take count row) (λ q r.
       let r′ : p < count = rw (← h, n) at r in
@@ -136,12 +136,12 @@ module _ (row : List ℕ) (count t : ℕ) (fits : count < length row) (pos : 1 �
 
 -- ---- after a time was put in
 
-pub inserted : {row row′ : List ℕ} {count t r : ℕ} → Inserted row row′ count t r → insert t (take count row) ≡ take r row′
-inserted {row} {row′} {count} {t} {r} i = sym (rw (i .row-is) (take-at (insert t (take count row)) _ r (sym (i .count-is))))
+pub inserted : {row row′ : List ℕ} {count t r : ℕ} → Inserted row row′ count t r → insertOnce t (take count row) ≡ take r row′
+inserted {row} {row′} {count} {t} {r} i = sym (rw (i .row-is) (take-at (insertOnce t (take count row)) _ r (sym (i .count-is))))
 
 -- the place of a later time is not before
 pub place-next : {row row′ : List ℕ} {count t r : ℕ} → Inserted row row′ count t r → 1 ≤ t → {p : ℕ} → p ≡ leading (t - 1) (take count row) → (t′ : ℕ) → t ≤ t′ → p ≤ leading (t′ - 1) (take r row′)
 place-next {row} {row′} {count} {t} {r} i pos {p} q t′ h =
-    let l : leading (t - 1) (take count row) ≤ leading (t′ - 1) (insert (suc (t - 1)) (take count row)) = place-later (t - 1) (t′ - 1) (omega arith) (take count row) in
-    let same : insert (suc (t - 1)) (take count row) ≡ take r row′ = ap (λ (x : ℕ). insert x (take count row)) (sym (not-zero t pos)) ∙ inserted i in
+    let l : leading (t - 1) (take count row) ≤ leading (t′ - 1) (insertOnce (suc (t - 1)) (take count row)) = place-later (t - 1) (t′ - 1) (omega arith) (take count row) in
+    let same : insertOnce (suc (t - 1)) (take count row) ≡ take r row′ = ap (λ (x : ℕ). insertOnce x (take count row)) (sym (not-zero t pos)) ∙ inserted i in
     rw (← same) (omega arith)

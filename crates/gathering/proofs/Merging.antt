@@ -13,20 +13,20 @@ use lib.ListN.{length, getD, take, drop, set, length-map, length-drop, drop-of-l
 use lib.Seq.{drop-cons, drop-drop, take-suc-set, append-snoc, length-take-le}
 use borrow.Author.Tests.{lt-ltb, le-ltb, eq-eqb, le-leb, lt-leb}
 use Rattle.lists.proofs.Choices.{order, less, same, more, tri}
-use Rattle.method.specs.Times.{insert, rising, shifted, gateTimes, among}
+use Rattle.method.specs.Times.{insertOnce, rising, shifted, gateTimes, among}
 use Rattle.method.proofs.Rising.{Rise, Starts, Above, rise-lower, rise-ext, above-append, rising-rise, rising-among, among-append}
 use Rattle.gathering.specs.Steps.{Added, Put, plus}
 use Rattle.gathering.proofs.Gathered.{one-in}
 
 -- ---- a list that rises already
 
-insert-front : (x : ℕ) (ts : List ℕ) → Rise x ts → insert x ts ≡ x ∷ ts
-insert-front x [] r = refl
-insert-front x (t ∷ ts) r = rw (lt-ltb x t (r .0))
+insertOnce-front : (x : ℕ) (ts : List ℕ) → Rise x ts → insertOnce x ts ≡ x ∷ ts
+insertOnce-front x [] r = refl
+insertOnce-front x (t ∷ ts) r = rw (lt-ltb x t (r .0))
 
 rising-self : (p : ℕ) (ts : List ℕ) → Rise p ts → rising ts ≡ ts
 rising-self p [] r = refl
-rising-self p (t ∷ ts) r = rw (rising-self t ts (r .1)) (insert-front t ts (r .1))
+rising-self p (t ∷ ts) r = rw (rising-self t ts (r .1)) (insertOnce-front t ts (r .1))
 
 plus-rise : (d p : ℕ) (ts : List ℕ) → Rise p ts → Rise (p + d) (plus d ts)
 plus-rise d p [] r = tt
@@ -67,7 +67,7 @@ module _ (d : ℕ) where
 
   union-first : (a : ℕ) (xs ys : List ℕ) → Rise a xs → Rise a ys → union (a ∷ xs) ys ≡ (a + d) ∷ union xs ys
   unfolding union
-  union-first a xs ys r s = insert-front (a + d) (rising (plus d xs ++ plus d ys)) (rising-rise (a + d) (plus d xs ++ plus d ys) (union-above a xs ys r s))
+  union-first a xs ys r s = insertOnce-front (a + d) (rising (plus d xs ++ plus d ys)) (rising-rise (a + d) (plus d xs ++ plus d ys) (union-above a xs ys r s))
 
   union-both : (p a : ℕ) (xs ys : List ℕ) → p < a → Rise a xs → Rise a ys → union (a ∷ xs) (a ∷ ys) ≡ (a + d) ∷ union xs ys
   unfolding union

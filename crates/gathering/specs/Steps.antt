@@ -6,7 +6,7 @@ use mathlib.Core.List.{List, [], _∷_, _++_, map}
 use lib.ListN.{length, getD, take, drop}
 use Rattle.lists.specs.Tables.{tabulate}
 use Rattle.method.specs.Kinds.{mostFanins}
-use Rattle.method.specs.Times.{insert, startAndRise}
+use Rattle.method.specs.Times.{insertOnce, startAndRise}
 use Rattle.method.specs.Limits.{mostNetFrames}
 use Rattle.method.specs.Layout.{partOf}
 use Rattle.circuit.specs.declared.GateRecord.{GateRecord}
@@ -17,14 +17,14 @@ use Rattle.circuit.specs.Limits.{mostDelay, mostTime}
 
 -- t is inserted into the first `count` numbers of the row, which makes them r; the rest is as it was
 pub record Inserted (row row′ : List ℕ) (count t r : ℕ) : Type 0 where
-  pub count-is : r ≡ length (insert t (take count row))
-  pub row-is : row′ ≡ insert t (take count row) ++ drop r row
+  pub count-is : r ≡ length (insertOnce t (take count row))
+  pub row-is : row′ ≡ insertOnce t (take count row) ++ drop r row
   pub most : r ≤ count + 1
 
 -- each of these times plus d, inserted one after the other
 unfoldable pub into : ℕ → List ℕ → List ℕ → List ℕ
 into d [] ts = ts
-into d (s ∷ ss) ts = into d ss (insert (s + d) ts)
+into d (s ∷ ss) ts = into d ss (insertOnce (s + d) ts)
 
 -- the first r numbers of the row are ts, at most `most`
 pub record Put (row ts : List ℕ) (most r : ℕ) : Type 0 where

@@ -1,7 +1,7 @@
 -- Mark's ladder beside Run's: where 12 is answered yes, they ask alike, and leave the areas alike.
 -- Assumes nothing.
 use Prim.Native.Nat.{ℕ, _+_, _≤_, _<_}
-use mathlib.Core.Path.{_≡_, sym, ap, ap₂, _∙_}
+use mathlib.Core.Path.{_≡_, refl, sym, ap, ap₂, _∙_}
 use mathlib.Core.Bool.{Bool, true, false}
 use mathlib.Core.List.{List, _∷_}
 use native.Mathlib.Omega.{arith}
@@ -10,8 +10,8 @@ use lib.ListN.{length}
 use borrow.Author.Tests.{le-leb, lt-leb}
 use Rattle.lists.specs.Ladder.{_orElse_, firstNo, unless}
 use Rattle.lists.specs.Outcome.{outcome}
-use Rattle.lists.proofs.Ladders.{Numbered, numbered-append, numbered-more, first, first-here, first-none, first-most, firstNo-append, asked, ask-yes, ask-no, accepted-none, refused-some}
-use Rattle.lists.proofs.Leaving.{left-other}
+use Rattle.lists.proofs.Ladders.{isNumber, numbered, each-append, first, first-here, first-none, firstNo-append, asked, ask-yes, ask-no, accepted-none, refused-some}
+use Rattle.lists.proofs.Leaving.{left-other, left-quiet}
 use Rattle.method.specs.Frames.{frames}
 use Rattle.method.specs.Values.{netCount}
 use Rattle.circuit.specs.File.{circuitOf}
@@ -29,20 +29,18 @@ use Rattle.engine.specs.Areas.{Areas}
 use Rattle.engine.specs.Questions.{firstQuestions, questionsOf, questions}
 use Rattle.engine.specs.Run.{runLeft, runOf}
 use Rattle.engine.proofs.Asking.{asked-no, asked-none, asked-inputs, asked-gates}
-use Rattle.engine.proofs.Answering.{first-numbered, joined, run-is}
+use Rattle.engine.proofs.Answering.{first-quiet, first-numbered, joined, run-is}
 use Rattle.marking.specs.Questions.{askedWith}
 use Rattle.marking.specs.Steps as steps
 
 module _ (file : List ℕ) (a : Areas) (before after : ℕ) (suit : Bool) where
-  pub ladder-numbered : Numbered 13 (askedWith file a before after suit)
+  pub ladder-numbered : numbered (askedWith file a before after suit) ≡ true
   unfolding askedWith
-  ladder-numbered =
-      numbered-append 13 (firstQuestions file a before after) ((suit orElse 12) ∷ lastQuestion file)
-      (numbered-more 11 13 (omega arith) (firstQuestions file a before after) (first-numbered file a before after)) (omega arith, omega arith, (omega arith, omega arith, tt))
+  ladder-numbered = each-append isNumber (firstQuestions file a before after) ((suit orElse 12) ∷ lastQuestion file) (first-numbered file a before after) refl
 
   parted : firstNo (askedWith file a before after suit) ≡ first (firstNo (firstQuestions file a before after)) (firstNo ((suit orElse 12) ∷ lastQuestion file))
   unfolding askedWith
-  parted = firstNo-append 11 (firstQuestions file a before after) ((suit orElse 12) ∷ lastQuestion file) (first-numbered file a before after)
+  parted = firstNo-append (firstQuestions file a before after) ((suit orElse 12) ∷ lastQuestion file) (first-numbered file a before after)
 
   pub ladder-early : (firstNo (firstQuestions file a before after) ≡ 0 → ⊥) → firstNo (askedWith file a before after suit) ≡ firstNo (firstQuestions file a before after)
   ladder-early h = parted ∙ first-here _ _ h
@@ -78,20 +76,20 @@ module _ (file before after : List ℕ) (a : Areas) (suit : Bool) where
   answers e = rw e
 
   -- 1 to 12 write nothing
-  unwritten : {n : ℕ} → firstNo (askedWith file a (length before) (length after) suit) ≡ n → (n ≡ 0 → ⊥) → (n ≡ 13 → ⊥) → steps.asked n a ≡ steps.askedOf file before after a suit
-  unwritten {n} e h k = sym (answers e ∙ ap (steps.asked n) (left-other _ _ a n h k))
+  unwritten : {n : ℕ} → firstNo (askedWith file a (length before) (length after) suit) ≡ n → left n ≡ a → steps.asked n a ≡ steps.askedOf file before after a suit
+  unwritten {n} e l = sym (answers e ∙ ap (steps.asked n) l)
 
   -- what `questions` answered
   module _ {r : Reading} (f : reader.onPaper r ≡ questionsOf file a (length before) (length after)) where
     pub early-no : {n : ℕ} → r ≡ R.Refused n → steps.asked n a ≡ steps.askedOf file before after a suit
     early-no {n} e =
         let q = asked-no file a (length before) (length after) f e in
-        let most = first-most 11 (firstQuestions file a (length before) (length after)) (first-numbered file a (length before) (length after)) in
-        unwritten (ladder-early file a (length before) (length after) suit (λ z. q .1 (q .0 ∙ z)) ∙ sym (q .0)) (q .1) (λ z. omega (arith, most, q .0))
+        unwritten (ladder-early file a (length before) (length after) suit (λ z. q .1 (q .0 ∙ z)) ∙ sym (q .0))
+        (left-quiet _ _ a (firstQuestions file a (length before) (length after)) (first-quiet file a (length before) (length after)) (q .0) (q .1))
 
     module _ {inputs gates : ℕ} (e : r ≡ R.Accepted inputs gates) where
       pub unsuited-no : suit ≡ false → steps.asked 12 a ≡ steps.askedOf file before after a suit
-      unsuited-no n = unwritten (ladder-12 file a (length before) (length after) suit (asked-none file a (length before) (length after) f e) n) (λ q. omega arith) (λ q. omega arith)
+      unsuited-no n = unwritten (ladder-12 file a (length before) (length after) suit (asked-none file a (length before) (length after) f e) n) (left-other _ _ a 12 (λ q. omega arith) refl)
 
   -- what Run answers and leaves
   module _ (y : suit ≡ true) (x : Planning) {b : Areas} (ran : outcome (onPaper x) b ≡ runOf file before after a) where

@@ -13,13 +13,13 @@ use Rattle.lists.specs.Outcome.{outcome}
 use Rattle.lists.proofs.Ladders.{unless-none, unless-some}
 use Rattle.lists.proofs.Leaving.{left-none, accepted-left}
 use Rattle.circuit.specs.File.{circuitOf}
-use Rattle.circuit.specs.Questions.{readOf, sizeOf}
+use Rattle.circuit.specs.Questions.{readOf, inputsAndGatesOf}
 use Rattle.circuit.proofs.Parts.{circuit-inputs, gates-length, few}
 use Rattle.engine.specs.Areas.{Areas, allCleared}
 use Rattle.method.specs.Values.{netCount}
 use Rattle.engine.specs.Questions.{firstQuestions}
 use Rattle.engine.specs.Run.{filled, runLeft}
-use Rattle.engine.specs.After.{Ran}
+use Rattle.engine.specs.After.{LeftByRun}
 use Rattle.engine.proofs.Asking.{passed}
 use Rattle.engine.proofs.Accepted.{ran-filled}
 use Rattle.engine.proofs.After.{after-runs}
@@ -41,9 +41,9 @@ use Rattle.marking.proofs.Searching.{searched-is}
 -- where 1 to 11 are answered yes, question 12 is whether there are as many
 needs-asked : (file : List ℕ) (a : Areas) (before after : ℕ) → firstNo (firstQuestions file a before after) ≡ 0 → (list : List Expectation)
     → listSuits (netCount (circuitOf file)) list ≡ leb (netsNeeded list) (netCount (circuitOf file))
-unfolding readOf sizeOf
+unfolding readOf inputsAndGatesOf
 needs-asked file a before after e list =
-    let read = unless-none _ (sizeOf file) (passed file a before after e .reads) in
+    let read = unless-none _ (inputsAndGatesOf file) (passed file a before after e .reads) in
     let most = few file read in
     list-suits-by (netCount (circuitOf file)) (omega (arith, circuit-inputs file, gates-length file, most)) list
 
@@ -83,7 +83,7 @@ module _ (file before after : List ℕ) (a : Areas) (list : List Expectation) wh
     pub list-suits : listSuits (netCount (circuitOf file)) list ≡ true
     list-suits = ladder-yes file a (length before) (length after) _ (accepts .0) .0
 
-    pub mark-ran : Ran file before after b
+    pub mark-ran : LeftByRun file before after b
     mark-ran = ran-filled file before after a (ladder-yes file a (length before) (length after) _ (accepts .0) .1) (accepts .2)
 
 -- ---- what `mark` answers

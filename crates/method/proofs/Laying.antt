@@ -177,14 +177,23 @@ pairs-length at [] = refl
 pairs-length at (f ∷ fs) = omega (arith, pairs-length (at + length (f .times)) fs)
 
 -- areas in which there was room for a plan are as long as before, so they hold it at their own lengths
+-- areas with room for the frames keep their lengths when they are laid out
+pub laid-lengths : (fs : List Frames) (a : Areas) → Room fs a → length (allInertial fs) ≡ length (allTimes fs)
+    → (length (laid fs a .directory) ≡ length (a .directory)) × (length (laid fs a .times) ≡ length (a .times)) × (length (laid fs a .inertial) ≡ length (a .inertial)) × (length (laid fs a .fanins) ≡ length (a .fanins))
+unfolding laid
+laid-lengths fs a r even = (
+  pad-length (length (a .directory)) (pairs 0 fs) (omega (arith, r .directory, pairs-length 0 fs)),
+  pad-length (length (a .times)) (allTimes fs) (r .times),
+  pad-length (length (a .inertial)) (allInertial fs) (omega (arith, r .inertial)),
+  pad-length (length (a .fanins)) (allFanins fs) (r .fanins),
+)
+
+-- so they are laid out at their own lengths
 pub laid-kept : (fs : List Frames) {a a′ : Areas} → a′ ≡ laid fs a → Room fs a → length (allInertial fs) ≡ length (allTimes fs) → a′ ≡ laid fs a′
 unfolding laid
 laid-kept fs {a} {a′} e r even =
-    let d = pad-length (length (a .directory)) (pairs 0 fs) (omega (arith, r .directory, pairs-length 0 fs)) in
-    let t = pad-length (length (a .times)) (allTimes fs) (r .times) in
-    let i = pad-length (length (a .inertial)) (allInertial fs) (omega (arith, r .inertial)) in
-    let f = pad-length (length (a .fanins)) (allFanins fs) (r .fanins) in
-    let again : laid fs a ≡ laid fs (laid fs a) = rw (d, t, i, f) in
+    let l = laid-lengths fs a r even in
+    let again : laid fs a ≡ laid fs (laid fs a) = rw (l .0, l .1, l .2, l .3) in
     e ∙ again ∙ ap (laid fs) (sym e)
 
 -- the frames of net x are stored behind those of fs

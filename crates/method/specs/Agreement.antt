@@ -22,7 +22,7 @@ abbrev pub potential : Circuit → ℕ → ℕ → Bool
 potential c n t = among t (framesAt c n .times)
 
 -- the number of times t from 1 to `end` at which the level differs from that at t - 1
-abbrev pub changedTimes : Wave → ℕ → ℕ
+unfoldable pub changedTimes : Wave → ℕ → ℕ
 changedTimes w zero = 0
 changedTimes w (suc t) = cond (Bool·beq (w (suc t)) (w t)) (changedTimes w t) (suc (changedTimes w t))
 

@@ -10,7 +10,7 @@ use Rattle.method.specs.Frames.{framesAt}
 use Rattle.method.specs.Traces.{traceAt}
 use Rattle.method.specs.Look.{level, changes}
 use Rattle.method.specs.Machine.{machine}
-use Rattle.method.specs.Words.{lane, pack}
+use Rattle.method.specs.Words.{lanes, lane, pack}
 use Rattle.method.specs.Packed.{laneOf, packedValues}
 use Rattle.method.specs.Agreement.{potential, changedTimes}
 
@@ -27,20 +27,20 @@ AgreeIn L inputs words words′ = (i : ℕ) → i < inputs → lane L (getD word
 
 pub record Lanes : Type 0 where
   -- bit L of a packed word is the bit that was packed, and a word is determined by its 64 lanes
-  pub packed-bit : (f : ℕ → Bool) (L : ℕ) → L < 64 → lane L (pack 64 f) ≡ f L
-  pub by-lanes : (a b : ℕ) → a < 2 ^ 64 → b < 2 ^ 64 → ((L : ℕ) → L < 64 → lane L a ≡ lane L b) → a ≡ b
+  pub packed-bit : (f : ℕ → Bool) (L : ℕ) → L < lanes → lane L (pack lanes f) ≡ f L
+  pub by-lanes : (a b : ℕ) → a < 2 ^ lanes → b < 2 ^ lanes → ((L : ℕ) → L < lanes → lane L a ≡ lane L b) → a ≡ b
   -- the packed values of a net have in lane L the values of that lane's own trace
-  pub own-values : (c : Circuit) (before after : List ℕ) (L : ℕ) → L < 64 → (n : ℕ)
+  pub own-values : (c : Circuit) (before after : List ℕ) (L : ℕ) → L < lanes → (n : ℕ)
       → map (lane L) (packedValues c before after n) ≡ traceAt c (laneOf L before after) n .values
   -- so the level is that of the machine run for that lane's pattern pair by itself, and the count that of its changes
-  pub level-is-machine : (c : Circuit) (before after : List ℕ) (L : ℕ) → L < 64 → (n t : ℕ)
+  pub level-is-machine : (c : Circuit) (before after : List ℕ) (L : ℕ) → L < lanes → (n t : ℕ)
       → laneLevel L c before after n t ≡ machine c (laneOf L before after) n t
-  pub count-is-machine : (c : Circuit) (before after : List ℕ) (L : ℕ) → L < 64 → (n end : ℕ) → ((t : ℕ) → potential c n t ≡ true → t ≤ end)
+  pub count-is-machine : (c : Circuit) (before after : List ℕ) (L : ℕ) → L < lanes → (n end : ℕ) → ((t : ℕ) → potential c n t ≡ true → t ≤ end)
       → laneCount L c before after n ≡ changedTimes (machine c (laneOf L before after) n) end
   -- and two runs whose words agree in lane L are alike there
-  pub same-level : (c : Circuit) (before after before′ after′ : List ℕ) (L : ℕ) → L < 64
+  pub same-level : (c : Circuit) (before after before′ after′ : List ℕ) (L : ℕ) → L < lanes
       → AgreeIn L (c .inputs) before before′ → AgreeIn L (c .inputs) after after′
       → (n t : ℕ) → laneLevel L c before after n t ≡ laneLevel L c before′ after′ n t
-  pub same-count : (c : Circuit) (before after before′ after′ : List ℕ) (L : ℕ) → L < 64
+  pub same-count : (c : Circuit) (before after before′ after′ : List ℕ) (L : ℕ) → L < lanes
       → AgreeIn L (c .inputs) before before′ → AgreeIn L (c .inputs) after after′
       → (n : ℕ) → laneCount L c before after n ≡ laneCount L c before′ after′ n

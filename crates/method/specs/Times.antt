@@ -10,14 +10,14 @@ abbrev pub inputTimes : List ℕ
 inputTimes = 0 ∷ 1 ∷ []
 
 -- x put in its place in a rising list, once
-abbrev pub insert : ℕ → List ℕ → List ℕ
-insert x [] = x ∷ []
-insert x (t ∷ ts) = cond (ltb x t) (x ∷ t ∷ ts) (cond (eqb x t) (t ∷ ts) (t ∷ insert x ts))
+abbrev pub insertOnce : ℕ → List ℕ → List ℕ
+insertOnce x [] = x ∷ []
+insertOnce x (t ∷ ts) = cond (ltb x t) (x ∷ t ∷ ts) (cond (eqb x t) (t ∷ ts) (t ∷ insertOnce x ts))
 
 -- these numbers, each once, rising
 abbrev pub rising : List ℕ → List ℕ
 rising [] = []
-rising (x ∷ xs) = insert x (rising xs)
+rising (x ∷ xs) = insertOnce x (rising xs)
 
 -- s + d for each non-zero time s
 abbrev pub shifted : ℕ → List ℕ → List ℕ

@@ -11,14 +11,14 @@ use borrow.Author.Tests.{eqb-true, not-true, not-false}
 use Rattle.lists.specs.Ladder.{firstNo, accepted, refused, unless}
 use Rattle.lists.specs.Outcome.{leftBy, outcome}
 use Rattle.lists.proofs.Choices.{and-left, and-right}
-use Rattle.lists.proofs.Ladders.{Numbered, numbered-append, numbered-more, first, first-here, first-none, first-most, firstNo-append, asked, ask-yes, ask-no, all-asked, accepted-none, refused-some, unless-none, unless-some}
-use Rattle.lists.proofs.Leaving.{left-none, left-13, left-other, accepted-left}
+use Rattle.lists.proofs.Ladders.{isNumber, numbered, each-append, first, first-here, first-none, firstNo-append, asked, ask-yes, ask-no, all-asked, accepted-none, refused-some, unless-none, unless-some}
+use Rattle.lists.proofs.Leaving.{left-none, left-clear, left-other, left-quiet, accepted-left}
 use Rattle.method.specs.Frames.{frames}
 use Rattle.circuit.specs.File.{inputsOf, gatesOf, circuitOf}
 use Rattle.circuit.specs.declared.Reading.{Reading}
 use Rattle.circuit.specs.declared.Reading.the-variants as R
 use Rattle.circuit.specs.Questions as reader
-use Rattle.circuit.proofs.Gated.{questions-numbered}
+use Rattle.circuit.proofs.Gated.{questions-quiet, questions-numbered}
 use Rattle.circuit.proofs.Parts.{gates-length, inputs-are, gates-are, few}
 use Rattle.method.specs.declared.Totals.{Totals}
 use Rattle.layout.specs.declared.Progress.{Progress}
@@ -33,7 +33,7 @@ use Rattle.planner.specs.Questions.{areasSuit, lastQuestion, ownQuestion
 use Rattle.planner.specs.Plan.{planOf, onPaper}
 use Rattle.method.specs.First.{Room}
 use Rattle.layout.specs.Steps.{framesOf, Given, Filled}
-use Rattle.method.proofs.Laying.{laid-kept}
+use Rattle.method.proofs.Laying.{laid-lengths, laid-kept}
 use Rattle.method.proofs.Prefix.{frames-all}
 use Rattle.method.proofs.Fitting.{fits-total}
 use Rattle.layout.proofs.Accepted.{nets-count, nets-sized}
@@ -81,6 +81,16 @@ plan-kept file a e y fit is =
     let even = nets-sized file e (gatesOf file) (omega arith) .even in
     laid-kept (frames (circuitOf file)) is (plan-room file a e y fit) (rw all at even)
 
+-- and keep the lengths of question 10
+pub plan-lengths : (file : List ℕ) (a : Areas) {a′ : Areas} → reader.readOf file ≡ accepted (record { inputs = inputsOf file; gates = gatesOf file }) → areasSuit a ≡ true → fits (frames (circuitOf file)) ≡ true
+    → a′ ≡ laid (frames (circuitOf file)) a → areasSuit a′ ≡ true
+unfolding areasSuit
+plan-lengths file a e y fit is =
+    let all = frames-all (circuitOf file) (gatesOf file) (sym (gates-length file)) in
+    let even = nets-sized file e (gatesOf file) (omega arith) .even in
+    let l = laid-lengths (frames (circuitOf file)) a (plan-room file a e y fit) (rw all at even) in
+    rw (is, l .0, l .1, l .2, l .3) y
+
 -- ---- the ladder
 
 module _ (file : List ℕ) (a : Areas) where
@@ -96,34 +106,49 @@ module _ (file : List ℕ) (a : Areas) where
   unfolding onPaper
   refusal {n} e h l = sym (planned e ∙ rw (unless-some n (totalsOf (frames (circuitOf file))) (λ z. omega arith), ← l))
 
-  pub plan-numbered : Numbered 13 (questions file a)
+  pub plan-numbered : numbered (questions file a) ≡ true
   unfolding questions
-  plan-numbered =
-      numbered-append 13 (reader.questions file) (ownQuestions file a) (numbered-more 9 13 (omega arith) (reader.questions file) (questions-numbered file))
-      (omega arith, omega arith, (omega arith, omega arith, tt))
+  plan-numbered = each-append isNumber (reader.questions file) (ownQuestions file a) (questions-numbered file) refl
 
   joined : firstNo (questions file a) ≡ first (firstNo (reader.questions file)) (firstNo (ownQuestions file a))
   unfolding questions
-  joined = firstNo-append 9 (reader.questions file) (ownQuestions file a) (questions-numbered file)
+  joined = firstNo-append (reader.questions file) (ownQuestions file a) (questions-numbered file)
 
-  -- what an acceptance says: the areas have the lengths of question 10, and are laid out
-  pub plan-accepted : {totals : Totals} {b : Areas} → outcome (accepted totals) b ≡ planOf file a → (areasSuit a ≡ true) × (b ≡ laid (frames (circuitOf file)) a)
-  unfolding planOf
-  plan-accepted e =
-      let p = accepted-left (firstNo (questions file a)) (totalsOf (frames (circuitOf file))) (laid (frames (circuitOf file)) a) (allCleared a) a e in
-      let q = first-none (firstNo (reader.questions file)) (firstNo (ownQuestions file a)) (sym joined ∙ p .0) in
-      (asked (areasSuit a) 10 (lastQuestion file) (λ z. omega arith) (q .1) .0, p .2)
+  -- what an acceptance says: the file is accepted, its frames fit, and the areas have the lengths of question 10 and are
+  -- laid out
+  module _ {totals : Totals} {b : Areas} (e : outcome (accepted totals) b ≡ planOf file a) where
+    says : (firstNo (questions file a) ≡ 0) × (totalsOf (frames (circuitOf file)) ≡ totals) × (b ≡ laid (frames (circuitOf file)) a)
+    unfolding planOf
+    says = accepted-left (firstNo (questions file a)) (totalsOf (frames (circuitOf file))) (laid (frames (circuitOf file)) a) (allCleared a) a e
+
+    parts : (firstNo (reader.questions file) ≡ 0) × (firstNo (ownQuestions file a) ≡ 0)
+    parts = first-none (firstNo (reader.questions file)) (firstNo (ownQuestions file a)) (sym joined ∙ says .0)
+
+    own : (areasSuit a ≡ true) × (firstNo (lastQuestion file) ≡ 0)
+    own = asked (areasSuit a) 10 (lastQuestion file) (λ z. omega arith) (parts .1)
+
+    plan-fits : fits (frames (circuitOf file)) ≡ true
+    plan-fits = asked (fits (frames (circuitOf file))) 13 [] (λ z. omega arith) (own .1) .0
+
+    pub accepted-read : reader.readOf file ≡ accepted (record { inputs = inputsOf file; gates = gatesOf file })
+    unfolding reader.readOf reader.inputsAndGatesOf
+    accepted-read = unless-none (firstNo (reader.questions file)) (reader.inputsAndGatesOf file) (parts .0)
+
+    pub accepted-kept : b ≡ laid (frames (circuitOf file)) b
+    accepted-kept = plan-kept file a accepted-read (own .0) plan-fits (says .2)
+
+    pub accepted-lengths : areasSuit b ≡ true
+    accepted-lengths = plan-lengths file a accepted-read (own .0) plan-fits (says .2)
 
   module _ {r : Reading} (f : reader.onPaper r ≡ reader.readOf file) where
     -- 1 to 9
     pub plan-read : {n : ℕ} → r ≡ R.Refused n → outcome (onPaper (Q.Refused n)) a ≡ planOf file a
     unfolding reader.onPaper reader.readOf
     plan-read {n} e =
-        let g : unless (firstNo (reader.questions file)) (reader.sizeOf file) ≡ refused n = sym f ∙ rw e in
-        let q = refused-some (firstNo (reader.questions file)) (reader.sizeOf file) g in
+        let g : unless (firstNo (reader.questions file)) (reader.inputsAndGatesOf file) ≡ refused n = sym f ∙ rw e in
+        let q = refused-some (firstNo (reader.questions file)) (reader.inputsAndGatesOf file) g in
         let m : firstNo (questions file a) ≡ n = joined ∙ rw (q .0) (first-here n _ (λ z. omega (arith, q .1))) in
-        let most : firstNo (reader.questions file) ≤ 9 = first-most 9 (reader.questions file) (questions-numbered file) in
-        refusal m (q .1) (sym (left-other _ _ a n (λ z. omega (arith, q .1)) (λ z. omega (arith, q .0))))
+        refusal m (q .1) (sym (left-quiet _ _ a (reader.questions file) (questions-quiet file) (sym (q .0)) (λ z. omega (arith, q .1))))
 
     module _ {inputs gates : ℕ} (e : r ≡ R.Accepted inputs gates) where
       answered : reader.readOf file ≡ accepted (record { inputs = inputs; gates = gates })
@@ -133,12 +158,12 @@ module _ (file : List ℕ) (a : Areas) where
       rest : firstNo (questions file a) ≡ firstNo (ownQuestions file a)
       unfolding reader.readOf
       rest =
-          let q : firstNo (reader.questions file) ≡ 0 = accepted-none (firstNo (reader.questions file)) (reader.sizeOf file) answered .0 in
+          let q : firstNo (reader.questions file) ≡ 0 = accepted-none (firstNo (reader.questions file)) (reader.inputsAndGatesOf file) answered .0 in
           joined ∙ rw q
 
       pub plan-10 : {ok : Bool} → ok ≡ areasSuit a → not ok ≡ true → outcome (onPaper (Q.Refused 10)) a ≡ planOf file a
       plan-10 {ok} is n =
-          refusal (rest ∙ ask-no (areasSuit a) 10 _ (sym is ∙ not-true ok n)) (omega arith) (sym (left-other _ _ a 10 (λ z. omega arith) (λ z. omega arith)))
+          refusal (rest ∙ ask-no (areasSuit a) 10 _ (sym is ∙ not-true ok n)) (omega arith) (sym (left-other _ _ a 10 (λ z. omega arith) refl))
 
       module _ {ok : Bool} (is : ok ≡ areasSuit a) (y : not ok ≡ false) where
         suits : areasSuit a ≡ true
@@ -155,7 +180,7 @@ module _ (file : List ℕ) (a : Areas) where
           pub plan-13 : q ≡ P.TooMany → outcome (onPaper (Q.Refused 13)) b ≡ planOf file a
           plan-13 z =
               refusal (rest ∙ ask-yes (areasSuit a) 10 _ suits ∙ ask-no (fits (frames (circuitOf file))) 13 [] (h .stopped z)) (omega arith)
-              (h .emptied z ∙ sym (left-13 _ _ a))
+              (h .emptied z ∙ sym (left-clear _ _ a 13 (λ z. omega arith) refl))
 
           pub plan-yes : {t : Totals} → q ≡ P.Planned t → outcome (onPaper (Q.Planned t)) b ≡ planOf file a
           unfolding onPaper

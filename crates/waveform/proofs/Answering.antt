@@ -10,16 +10,18 @@ use native.Mathlib.Omega.{arith}
 use lib.ListN.{length}
 use lib.Dec.{eqb}
 use borrow.Author.Tests.{eqb-true, eq-eqb, ne-eqb}
-use Rattle.lists.specs.Ladder.{Question, _orElse_, firstNo}
+use Rattle.lists.specs.Ladder.{Question, _orElse_, firstNo, accepted}
 use Rattle.lists.specs.Outcome.{outcome}
 use Rattle.lists.proofs.Choices.{zero-or, bool-ext, and-left, and-both}
 use Rattle.lists.proofs.Ladders.{first, first-none, firstNo-append, asked, ask-yes, unless-none, refused-some}
-use Rattle.circuit.specs.File.{inputsOf, gatesOf, circuitOf}
+use Rattle.circuit.specs.File.{inputsOf, circuitOf}
 use Rattle.circuit.specs.Limits.{mostInputs, mostGates}
+use Rattle.circuit.specs.declared.Reading.{Reading}
+use Rattle.circuit.specs.declared.Reading.the-variants as R
 use Rattle.circuit.specs.Questions as reader
 use Rattle.circuit.proofs.Gated.{questions-numbered}
 use Rattle.circuit.proofs.Accepted.{Head, passed}
-use Rattle.circuit.proofs.Parts.{circuit-inputs, gates-length}
+use Rattle.circuit.proofs.Parts.{circuit-inputs, gates-length, inputs-are, gates-are, few}
 use Rattle.planner.specs.declared.Planning.{Planning}
 use Rattle.planner.specs.declared.Planning.the-variants as Q
 use Rattle.method.specs.declared.Totals.{Totals}
@@ -33,7 +35,7 @@ use Rattle.engine.specs.Areas.{Areas, areas}
 use Rattle.engine.specs.Questions as engine
 use Rattle.engine.specs.Run.{runOf}
 use Rattle.method.specs.Values.{netCount}
-use Rattle.engine.specs.After.{Ran}
+use Rattle.engine.specs.After.{LeftByRun}
 use Rattle.engine.proofs.Accepted.{held, none}
 use Rattle.engine.proofs.After.{after-runs}
 use Rattle.engine.proofs.Answering.{run-is}
@@ -42,7 +44,7 @@ use Rattle.waveform.specs.Input.{wordsFrom, beforeWords, afterWords, que
 use Rattle.text.specs.Text.{refusal}
 use Rattle.waveform.specs.Lines.{lines}
 use Rattle.waveform.specs.Wave.{answerText, bufferLength}
-use Rattle.waveform.specs.Steps.{listLength, areaLines, runText}
+use Rattle.waveform.specs.Steps.{listLength, areaLines, netsRead, runText}
 use Rattle.waveform.proofs.Taking.{words-length, list-exact, list-only}
 use Rattle.waveform.proofs.Lining.{lines-are}
 use Rattle.waveform.proofs.Lengths.{refusal-length, lines-length}
@@ -51,6 +53,27 @@ use Rattle.waveform.proofs.Lengths.{refusal-length, lines-length}
 pub areas-pass : (d t i f v : List ℕ) → length d ≡ 320 → length t ≡ 2048 → length i ≡ 2048 → length f ≡ 16384 → length v ≡ 2048 → engine.areasSuit (areas d t i f v) ≡ true
 unfolding engine.areasSuit planner.areasSuit
 areas-pass d t i f v p q r s u = rw (eq-eqb _ _ p, eq-eqb _ _ q, eq-eqb _ _ r, eq-eqb _ _ s, eq-eqb _ _ u) refl
+
+-- ---- how many nets there are, from the reader's answer
+
+module _ (file : List ℕ) {r : Reading} (e : reader.onPaper r ≡ reader.readOf file) where
+  module _ {inputs gates : ℕ} (q : r ≡ R.Accepted inputs gates) where
+    answered : reader.readOf file ≡ accepted (record { inputs = inputs; gates = gates })
+    unfolding reader.onPaper
+    answered = sym e ∙ ap reader.onPaper q
+
+    pub nets-read : inputs + gates ≡ netsRead (reader.readOf file)
+    nets-read = sym (ap netsRead answered)
+
+    pub nets-few : inputs + gates ≤ mostInputs + mostGates
+    nets-few =
+        let i = inputs-are file answered in
+        let g = gates-are file answered in
+        omega (arith, i, g, few file (answered ∙ rw (i, g)))
+
+  pub nets-none : {n : ℕ} → r ≡ R.Refused n → 0 ≡ netsRead (reader.readOf file)
+  unfolding reader.onPaper
+  nets-none q = sym (ap netsRead (sym e ∙ ap reader.onPaper q))
 
 -- ---- a run
 
@@ -75,21 +98,15 @@ module _ (file before after : List ℕ) (a : Areas) where
         sym (text-no (λ z. omega (arith, s .0, s .1, z)) ∙ ap refusal (s .0))
 
     module _ {totals : Totals} (q : r ≡ Q.Planned totals) where
-      ran : Ran file before after b
+      ran : LeftByRun file before after b
       unfolding onPaper
       ran = record { totals = totals; entry = a; ran = ap (λ (x : Planning). outcome (onPaper x) b) (sym q) ∙ e }
 
-      head : Head file
-      head = passed file _ (held file before after ran .read) .head
-
-      pub run-limits : (inputsOf file ≤ mostInputs) × (gatesOf file ≤ mostGates)
-      run-limits = (head .inputs-most, head .gates-most)
-
       -- all lines
-      pub run-lines : {nets : ℕ} → nets ≡ inputsOf file + gatesOf file → areaLines (b .plan .directory) (b .plan .times) (b .values) nets ≡ runText file a before after
+      pub run-lines : {nets : ℕ} → nets ≡ netsRead (reader.readOf file) → areaLines (b .plan .directory) (b .plan .times) (b .values) nets ≡ runText file a before after
       unfolding ran
       run-lines {nets} p =
-          let m : nets ≡ netCount (circuitOf file) = omega (arith, p, circuit-inputs file, gates-length file) in
+          let m : nets ≡ netCount (circuitOf file) = p ∙ ap netsRead (held file before after ran .read) ∙ sym (ap₂ _+_ (circuit-inputs file) (gates-length file)) in
           ap (areaLines (b .plan .directory) (b .plan .times) (b .values)) m
           ∙ lines-are file before after (after-runs .after-run file before after b ran)
           ∙ sym (text-yes (none file before after ran))
@@ -114,7 +131,7 @@ module _ (file part : List ℕ) where
   module _ (pass : firstNo (reader.questions file) ≡ 0) where
     file-head : Head file
     unfolding reader.readOf
-    file-head = passed file (reader.sizeOf file) (unless-none (firstNo (reader.questions file)) (reader.sizeOf file) pass) .head
+    file-head = passed file (reader.inputsAndGatesOf file) (unless-none (firstNo (reader.questions file)) (reader.inputsAndGatesOf file) pass) .head
 
   -- the ladder behind the reader's
   abbrev rest : List Question
@@ -122,7 +139,7 @@ module _ (file part : List ℕ) where
 
   joined : firstNo (questions file part) ≡ first (firstNo (reader.questions file)) (firstNo rest)
   unfolding questions
-  joined = firstNo-append 9 (reader.questions file) rest (questions-numbered file)
+  joined = firstNo-append (reader.questions file) rest (questions-numbered file)
 
   -- Run's ladder comes to the same
   module _ (a : Areas) (suit : engine.areasSuit a ≡ true) where
@@ -133,7 +150,7 @@ module _ (file part : List ℕ) where
     unfolding engine.questions engine.firstQuestions
     run-joined =
         ap firstNo (append-assoc (reader.questions file) (engine.ownQuestions (inputsOf file) a each each) (lastQuestion file))
-        ∙ firstNo-append 9 (reader.questions file) own (questions-numbered file)
+        ∙ firstNo-append (reader.questions file) own (questions-numbered file)
 
     same-rest : (m : ℕ) → firstNo (reader.questions file) ≡ m → first m (firstNo own) ≡ first m (firstNo rest)
     same-rest zero e =

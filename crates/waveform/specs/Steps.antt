@@ -4,10 +4,11 @@ use mathlib.Core.Bool.{cond, _&&_}
 use mathlib.Core.List.{List, [], _∷_, _++_, flatten}
 use lib.ListN.{length, getD}
 use lib.Dec.{leb, eqb}
-use Rattle.lists.specs.Ladder.{firstNo}
+use Rattle.lists.specs.Ladder.{firstNo, Answer, accepted, refused}
 use Rattle.lists.specs.Tables.{tabulate}
 use Rattle.method.specs.Words.{lane}
 use Rattle.circuit.specs.File.{circuitOf}
+use Rattle.circuit.specs.Questions.{InputsAndGates}
 use Rattle.method.specs.Layout.{firstFrame, frameCount}
 use Rattle.engine.specs.Areas.{Areas}
 use Rattle.engine.specs.Questions as engine
@@ -36,6 +37,11 @@ unfoldable pub areaLines : List ℕ → List ℕ → List ℕ → ℕ → List �
 areaLines directory times values n = flatten (tabulate n (areaLine directory times values))
 
 -- ---- a run, printed
+
+-- how many nets a circuit has, by what the reader answers: I + G
+abbrev pub netsRead : Answer InputsAndGates → ℕ
+netsRead (accepted s) = s .inputs + s .gates
+netsRead (refused n) = 0
 
 -- the number of the first "no" of Run, or the lines
 unfoldable pub runText : List ℕ → Areas → List ℕ → List ℕ → List ℕ

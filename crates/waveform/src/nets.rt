@@ -1,15 +1,14 @@
 // The lines of the nets, and the answer to a circuit with its words.
 ghost use mathlib.Core.Path.{_≡_};
-ghost use Prim.Native.Nat.{_+_, _≤_};
 ghost use lib.ListN.{length};
-ghost use Rattle.circuit.specs.File.{inputsOf, gatesOf};
-ghost use Rattle.circuit.specs.Limits.{mostInputs, mostGates};
+ghost use Rattle.circuit.specs.Questions.{readOf};
 ghost use Rattle.engine.specs.Areas.{areas};
 ghost use Rattle.waveform.specs.Wave.{answerText};
 ghost use Rattle.text.specs.Wrote.{Wrote};
-ghost use Rattle.waveform.specs.Steps.{listLength, areaFrames, areaLine, areaLines, runText};
+ghost use Rattle.waveform.specs.Steps.{listLength, areaFrames, areaLine, areaLines, netsRead, runText};
 use crate::input::list_length;
 use crate::input::take_words;
+use circuit::Reading;
 use method::Net;
 use method::Time;
 use planner::Planning;
@@ -101,12 +100,14 @@ fn put_run(
     }
 }
 
-// How many nets the circuit of an accepted file has.
+// How many nets the circuit of the file has, by the reader's answer; none where it is refused.
 fn net_count(file: &[u8]) -> u16
-    requires { ⌜ (inputsOf (now file) ≤ mostInputs) × (gatesOf (now file) ≤ mostGates) ⌝ }
-    ensures { λ r. ⌜ r ≡ inputsOf (now (file .entry)) + gatesOf (now (file .entry)) ⌝ }
+    ensures { λ r. ⌜ r ≡ netsRead (readOf (now (file .entry))) ⌝ }
 {
-    numbers::number_at(file, 0) + numbers::number_at(file, 2)
+    match circuit::read(file) {
+        Reading::Accepted { inputs, gates } => inputs + gates,
+        Reading::Refused(_) => 0,
+    }
 }
 
 // Takes both lists from the word part, which has as many words for each as they have places, and writes what Run answers

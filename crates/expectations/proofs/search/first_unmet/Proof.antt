@@ -370,7 +370,7 @@ module _ {M : Type 1} (𝓤 : URA M) (H : Heap 𝓤) (A : Atoms 𝓤) (W : Given
           -- [the token and true; the areas'; the fractured borrow; _16; …; room for _7; …]
           land ! (from ! (stop !)) (init ! 21 refl (uint-lawful 𝓤 H A W w16 .typed r _ is′ .0)) $ rewrite ! 21 (λ (v : Val). ‵ (fat fullShare (tyInt w16) l₇ 0 v)) (ap only (is′ .0) ∙ ap (vint w16) e) refl $
           split ! $ move ! (1 ∷ []) $ drop ! $ move ! (1 ∷ 0 ∷ []) $
-          assigns ! (agg ! (and-then ! (lit ! tt) (no-more !))) (from ! (stop !)) (init ! 19 refl (LL.lawful Fr.the-type Fr′.the-laws 𝓤 H A W .typed (fr 0) _ (frame-is 0 (lit< tt)) .0)) $
+          assigns ! (agg ! (and-then ! (lit ! tt) (no-more !))) (from ! (stop !)) (init ! 19 refl (LL.lawful Fr.the-type Fr′.the-laws 𝓤 H A W .typed (fr _) _ (frame-is _ (lit< tt)) .0)) $
           forget ! 9 refl $ forget ! 11 refl $ forget ! 13 refl $ forget ! 15 refl $
           first ! $ blocks ! $ loops ! 𝓣 (Later x) (Later-wf x) (Within x) (turns-in x (inside x t) is (subst (λ (c : ℕ). c < 2 ^ 16) e (is′ .1))) (frame-0 x (inside x t)))))))))
 

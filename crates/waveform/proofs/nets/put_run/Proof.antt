@@ -1,7 +1,7 @@
 -- `waveform::put_run` meets its contract. Run's answer is printed: its number, or the lines that its areas hold.
 -- Assumes nothing.
 use Rattle.text.proofs.Putting.{wrote-as}
-use Rattle.waveform.proofs.Answering.{run-refused, run-limits, run-lines}
+use Rattle.waveform.proofs.Answering.{run-refused, run-lines}
 use borrow.Author.Needs.{needs}
 use Rattle.waveform.proofs.nets.put_run.Statement.{statement}
 use Rattle.waveform.proofs.nets.put_run.Tie as tie
@@ -19,7 +19,7 @@ enum-told : tie.Need-enum-told
 enum-told c = search needs
 
 net-count-requires : tie.Need-net-count-requires
-net-count-requires c κs = run-limits _ _ _ _ (c .before .before .before .before .before .before .before .before .before .before .before .before .before .before .before .before .run .ensures) (c .before .before .before .before .enum-told .given .1)
+net-count-requires c κs = search needs
 
 put-nets-requires : tie.Need-put-nets-requires
 put-nets-requires c κs = search needs
