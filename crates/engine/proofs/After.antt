@@ -26,7 +26,7 @@ use Rattle.method.proofs.Agreement.{agreement}
 use Rattle.method.proofs.Lanes.{in-lanes}
 use Rattle.circuit.specs.File.{inputsOf, circuitOf}
 use Rattle.circuit.proofs.Bounded.{time-small}
-use Rattle.method.specs.Limits.{mostNetFrames}
+use Rattle.method.specs.Limits.{mostNetFrames, mostTotalFrames}
 use Rattle.method.specs.Areas as areas
 use Rattle.method.specs.Layout.{laid, firstFrame, frameCount}
 use Rattle.method.proofs.Fitting.{fits-total, fits-net}
@@ -82,7 +82,7 @@ module _ (file before after : List ℕ) {a : Areas} (b : Held file before after 
   pub values-are : valuesOf a n ≡ packedValues c before after n
   values-are = words-part c before after (b .plan-is) n (length (a .values)) h (b .values-are)
 
-  inside : firstFrame (a .plan .directory) n + frameCount (a .plan .directory) n ≤ 2048
+  inside : firstFrame (a .plan .directory) n + frameCount (a .plan .directory) n ≤ mostTotalFrames
   inside = omega (arith, pair-first (frames c) (b .plan-is) n there, count-is, frames-end (frames c) n there, fits-total (frames c) (b .fit))
 
   net-parts : NetParts a n
