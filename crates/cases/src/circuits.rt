@@ -23,7 +23,7 @@ use testbench::show_sums;
 use testbench::times_length;
 use testbench::values_length;
 
-// False where the case is cut short or too large; then nothing is printed.
+// False where the case is cut short or too large, and nothing is printed; and where its line cannot be written.
 pub(crate) fn circuit_case() -> bool {
     let look = read_look();
     let case = read_case();
@@ -34,11 +34,16 @@ pub(crate) fn circuit_case() -> bool {
     let file = case.file;
     let before = case.before;
     let after = case.after;
-    show_line(head, look, file, before, after);
-    true
+    show_line(head, look, file, before, after)
 }
 
-fn show_line(head: [u8; 18], look: Look, file: [u8; 70000], before: [u64; 80], after: [u64; 80]) {
+fn show_line(
+    head: [u8; 18],
+    look: Look,
+    file: [u8; 70000],
+    before: [u64; 80],
+    after: [u64; 80],
+) -> bool {
     let f = &file[0..file_length(head)];
     let b = &before[0..before_count(head)];
     let a = &after[0..after_count(head)];
@@ -49,7 +54,7 @@ fn show_line(head: [u8; 18], look: Look, file: [u8; 70000], before: [u64; 80], a
     questions_case(head, f, b, a);
     show_semicolon();
     run_case(head, look, f, b, a);
-    end_line();
+    end_line()
 }
 
 // In these functions d, t, i, f and v are the areas: directory, times, inertial, fan-ins and values. Plan is not lent the

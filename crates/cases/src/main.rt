@@ -18,14 +18,14 @@
 // or `refused` with the number.
 //
 // The program stops at the end of the input. At another first byte, at a case that is cut short and at one that its buffers
-// do not hold (80 times or values are the most) it prints `cut` and stops. Mark has a program of its own, marks.
+// do not hold (80 times or values are the most) it prints `cut` and stops, and so it does where it cannot read or write on,
+// which standard error then says. Mark has a program of its own, marks.
 mod circuits;
 mod nets;
 mod parts;
 mod print;
 
 use circuits::circuit_case;
-use libc::STDIN_FILENO;
 use parts::parts_case;
 use testbench::show_cut;
 
@@ -42,7 +42,12 @@ fn main() {
 // One case. False where the program stops.
 fn next_case() -> bool {
     let mut first = [0u8; 1];
-    if io::read_full(STDIN_FILENO, &mut first) == 0 {
+    let received = streams::read_input(&mut first);
+    if received.failed {
+        show_cut();
+        return false;
+    }
+    if received.count == 0 {
         return false;
     }
     let shown = match first[0] {

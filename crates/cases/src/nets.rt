@@ -1,7 +1,6 @@
 // What Level and Count see of a net.
 ghost use Prim.Native.Nat.{_≤_};
 use crate::print::bit;
-use libc::STDOUT_FILENO;
 use looks::Counted;
 use looks::Seen;
 use method::Net;
@@ -66,7 +65,7 @@ fn show_frames(times: &[u16; 2100], values: &[u64; 2100], span: Span, time: Time
 fn show_lanes(times: &[u16], values: &[u64], time: Time) {
     match looks::level(times, values, 63, time) {
         Seen::Level(_) => {
-            io::print_hex(STDOUT_FILENO, levels_of(times, values, time), 16);
+            streams::write_hex(levels_of(times, values, time), 16);
             show_number(counts_of(times, values));
         }
         Seen::Refused(number) => show_refused(number),

@@ -11,7 +11,7 @@ use testbench::read_words;
 use testbench::show_semicolon;
 use testbench::wide;
 
-// False where the case is cut short or too large; then nothing is printed.
+// False where the case is cut short or too large, and nothing is printed; and where its line cannot be written.
 pub(crate) fn parts_case() -> bool {
     let mut head = [0u8; 5];
     if !read_all(&mut head) {
@@ -64,19 +64,18 @@ fn with_values(head: [u8; 5], times: [u16; 80], values: Words) -> bool {
         return false;
     }
     let words = values.list;
-    show_line(head, times, words);
-    true
+    show_line(head, times, words)
 }
 
 // Prints what Level and Count answer.
-fn show_line(head: [u8; 5], times: [u16; 80], values: [u64; 80]) {
+fn show_line(head: [u8; 5], times: [u16; 80], values: [u64; 80]) -> bool {
     let t = &times[0..times_count(head)];
     let v = &values[0..values_count(head)];
     let lane = head[2];
     show_seen(looks::level(t, v, lane, time_of(head)));
     show_semicolon();
     show_counted(looks::count(t, v, lane));
-    end_line();
+    end_line()
 }
 
 fn time_of(head: [u8; 5]) -> Time {

@@ -1,6 +1,5 @@
 // Answers in print.
 use circuit::Reading;
-use libc::STDOUT_FILENO;
 use looks::Counted;
 use looks::Seen;
 use planner::Planning;
@@ -11,7 +10,7 @@ use testbench::show_refused;
 pub(crate) fn show_reading(answer: Reading) {
     match answer {
         Reading::Accepted { inputs, gates } => {
-            io::write_all(STDOUT_FILENO, b"accepted");
+            streams::write_output(b"accepted");
             show_number(inputs as u64);
             show_number(gates as u64);
         }
@@ -24,7 +23,7 @@ pub(crate) fn show_planning(answer: Planning) -> bool {
     match answer {
         Planning::Planned(totals) => {
             let last = totals.last;
-            io::write_all(STDOUT_FILENO, b"planned");
+            streams::write_output(b"planned");
             show_number(totals.frames as u64);
             show_number(totals.fanins as u64);
             show_number(last.0 as u64);
@@ -40,7 +39,7 @@ pub(crate) fn show_planning(answer: Planning) -> bool {
 pub(crate) fn show_seen(answer: Seen) {
     match answer {
         Seen::Level(level) => {
-            io::print_decimal(STDOUT_FILENO, bit(level));
+            streams::write_decimal(bit(level));
         }
         Seen::Refused(number) => show_refused(number),
     }
@@ -53,7 +52,7 @@ pub(crate) fn bit(level: bool) -> u64 {
 pub(crate) fn show_counted(answer: Counted) {
     match answer {
         Counted::Changes(changes) => {
-            io::print_decimal(STDOUT_FILENO, changes as u64);
+            streams::write_decimal(changes as u64);
         }
         Counted::Refused(number) => show_refused(number),
     }

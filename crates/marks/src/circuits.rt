@@ -25,7 +25,7 @@ use testbench::times_length;
 use testbench::values_length;
 use testbench::wide;
 
-// False where the case is cut short or too large; then nothing is printed.
+// False where the case is cut short or too large, and nothing is printed; and where its line cannot be written.
 pub(crate) fn circuit_case(expected: u8) -> bool {
     if 12 < expected {
         return false;
@@ -54,8 +54,7 @@ fn with_records(case: Case, records: &mut [u8]) -> bool {
         after,
         list_of(records),
         records.len() / 8,
-    );
-    true
+    )
 }
 
 fn show_line(
@@ -65,7 +64,7 @@ fn show_line(
     after: [u64; 80],
     list: [Expectation; 12],
     count: usize,
-) {
+) -> bool {
     mark_case(
         head,
         &file[0..file_length(head)],
@@ -74,7 +73,7 @@ fn show_line(
         list,
         limited(count, 12),
     );
-    end_line();
+    end_line()
 }
 
 fn mark_case<'a>(

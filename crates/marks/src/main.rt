@@ -8,13 +8,12 @@
 // stands in the same place.
 //
 // The program stops at the end of the input. At a case that is cut short and at one that its buffers do not hold it prints
-// `cut` and stops.
+// `cut` and stops, and so it does where it cannot read or write on, which standard error then says.
 mod circuits;
 mod lending;
 mod records;
 
 use circuits::circuit_case;
-use libc::STDIN_FILENO;
 use testbench::show_cut;
 
 // No input has as many cases as there are turns.
@@ -31,7 +30,12 @@ fn main() {
 // One case. False where the program stops.
 fn next_case() -> bool {
     let mut first = [0u8; 1];
-    if io::read_full(STDIN_FILENO, &mut first) == 0 {
+    let received = streams::read_input(&mut first);
+    if received.failed {
+        show_cut();
+        return false;
+    }
+    if received.count == 0 {
         return false;
     }
     let shown = circuit_case(first[0]);

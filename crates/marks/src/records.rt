@@ -1,6 +1,5 @@
 // The expectations of a case, and Mark's answer in print.
 ghost use Prim.Native.Nat.{_<_, _≤_};
-use libc::STDOUT_FILENO;
 use marking::Expectation;
 use marking::Marking;
 use method::Net;
@@ -38,10 +37,10 @@ fn low_byte(number: u16) -> u8 {
 pub(crate) fn show_marking(answer: Marking) {
     match answer {
         Marking::AllMet => {
-            io::write_all(STDOUT_FILENO, b"all met");
+            streams::write_output(b"all met");
         }
         Marking::Unmet(position, frame) => {
-            io::write_all(STDOUT_FILENO, b"unmet");
+            streams::write_output(b"unmet");
             show_number(position as u64);
             show_number(frame.0 as u64);
         }

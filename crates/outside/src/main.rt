@@ -11,17 +11,18 @@
 // frame before: the time in decimal and the word in 16 hexadecimal digits, bit L for lane L. C is the sum over the 64
 // lanes of what Count answers. A vector that is turned down has one line, `refused` and the number that the wave
 // program gives it (0 if it has under 2 or over 4,096 bytes or is shorter than its circuit), and the empty line. The
-// program stops at the end of the stream; where that lies within a vector it prints `cut`.
+// program stops at the end of the stream; where that lies within a vector, and where it cannot read or write on, which
+// standard error then says, it prints `cut` and stops.
 ghost use Prim.Native.Nat.{_<_, _≤_};
 
 mod nets;
 
 use circuit::Reading;
-use libc::STDIN_FILENO;
 use nets::show_nets;
 use numbers::number_at;
 use planner::Planning;
 use testbench::end_line;
+use testbench::read_all;
 use testbench::show_cut;
 use testbench::show_refused;
 use testbench::words_of;
@@ -37,10 +38,14 @@ fn main() {
     }
 }
 
-// One vector. False at the end of the input.
+// One vector. False where the program stops.
 fn next_vector() -> bool {
     let mut head = [0u8; 2];
-    let got = io::read_full(STDIN_FILENO, &mut head);
+    let received = streams::read_input(&mut head);
+    if received.failed {
+        return cut();
+    }
+    let got = received.count;
     if got == 0 {
         return false;
     }
@@ -60,11 +65,15 @@ fn wide(x: u16) -> usize
 
 // Fills the vector from the input and prints its lines.
 fn show_vector(vector: &mut [u8]) -> bool {
-    if io::read_full(STDIN_FILENO, vector) < vector.len() {
+    if !read_all(vector) {
         return cut();
     }
-    take_apart(vector);
-    end_line();
+    if !take_apart(vector) {
+        return cut();
+    }
+    if !end_line() {
+        return cut();
+    }
     true
 }
 
@@ -73,8 +82,9 @@ fn cut() -> bool {
     false
 }
 
-// The wave program's own question 0, and where the circuit ends.
-fn take_apart(vector: &[u8]) {
+// The wave program's own question 0, and where the circuit ends. This function and those below it print a vector's lines and
+// answer false where one cannot be written.
+fn take_apart(vector: &[u8]) -> bool {
     let len = vector.len();
     if len < 2 {
         return refuse(0);
@@ -86,17 +96,17 @@ fn take_apart(vector: &[u8]) {
     if len < end {
         return refuse(0);
     }
-    show_circuit(&vector[2..end], &vector[end..len]);
+    show_circuit(&vector[2..end], &vector[end..len])
 }
 
 // Asks the circuit's questions before the one about the words.
-fn show_circuit(file: &[u8], words: &[u8]) {
+fn show_circuit(file: &[u8], words: &[u8]) -> bool {
     match circuit::read(file) {
         Reading::Accepted { inputs, gates } => {
             if words.len() != 16 * inputs as usize {
                 return refuse(11);
             }
-            with_words(file, words, inputs as usize, nets_of(inputs, gates));
+            with_words(file, words, inputs as usize, nets_of(inputs, gates))
         }
         Reading::Refused(number) => refuse(number),
     }
@@ -115,7 +125,7 @@ fn nets_of(inputs: u16, gates: u16) -> u16 {
 
 // Takes the before words and the after words from the bytes. An accepted circuit has at most 32 inputs; it is asked again,
 // so that the lists hold them whatever the reader promises.
-fn with_words(file: &[u8], words: &[u8], inputs: usize, nets: u16) {
+fn with_words(file: &[u8], words: &[u8], inputs: usize, nets: u16) -> bool {
     if 32 < inputs {
         return refuse(2);
     }
@@ -125,11 +135,11 @@ fn with_words(file: &[u8], words: &[u8], inputs: usize, nets: u16) {
         words_of(words, 8 * inputs),
         inputs,
         nets,
-    );
+    )
 }
 
 // Runs the circuit, and prints its nets or the number of the refusal.
-fn show_run(file: &[u8], before: [u64; 80], after: [u64; 80], inputs: usize, nets: u16)
+fn show_run(file: &[u8], before: [u64; 80], after: [u64; 80], inputs: usize, nets: u16) -> bool
     requires { ⌜ inputs ≤ 32 ⌝ }
 {
     let mut directory = [0u16; 320];
@@ -153,7 +163,7 @@ fn show_run(file: &[u8], before: [u64; 80], after: [u64; 80], inputs: usize, net
     }
 }
 
-fn refuse(number: u8) {
+fn refuse(number: u8) -> bool {
     show_refused(number);
-    end_line();
+    end_line()
 }

@@ -1,6 +1,5 @@
 // A net's changes in all lanes, printed.
 ghost use Prim.Native.Nat.{_<_, _≤_};
-use libc::STDOUT_FILENO;
 use looks::Counted;
 use method::Net;
 use method::Time;
@@ -9,29 +8,32 @@ use testbench::show_number;
 use testbench::show_semicolon;
 use testbench::span_of;
 
-// Prints a line a net.
+// Prints a line a net; false where one cannot be written.
 pub(crate) fn show_nets(
     directory: &[u16; 320],
     times: &[u16; 2048],
     values: &[u64; 2048],
     nets: u16,
-) {
+) -> bool {
     let mut net: u16 = 0;
     while net < nets {
-        show_net(directory, times, values, Net(net));
+        if !show_net(directory, times, values, Net(net)) {
+            return false;
+        }
         net += 1;
     }
+    true
 }
 
-fn show_net(directory: &[u16; 320], times: &[u16; 2048], values: &[u64; 2048], net: Net) {
+fn show_net(directory: &[u16; 320], times: &[u16; 2048], values: &[u64; 2048], net: Net) -> bool {
     let span = span_of(&directory[..], net, 2048);
     let first = span.first;
     let end = span.end;
-    io::print_decimal(STDOUT_FILENO, net.0 as u64);
+    streams::write_decimal(net.0 as u64);
     show_changes(times, values, first, end);
     show_semicolon();
     show_count(times, values, first, end);
-    end_line();
+    end_line()
 }
 
 fn show_changes(times: &[u16; 2048], values: &[u64; 2048], first: usize, end: usize)
@@ -58,8 +60,8 @@ fn show_change(times: &[u16; 2048], values: &[u64; 2048], first: usize, k: usize
 
 fn show_frame(time: Time, word: u64) {
     show_number(time.0 as u64);
-    io::write_all(STDOUT_FILENO, b"=");
-    io::print_hex(STDOUT_FILENO, word, 16);
+    streams::write_output(b"=");
+    streams::write_hex(word, 16);
 }
 
 fn show_count(times: &[u16; 2048], values: &[u64; 2048], first: usize, end: usize)
@@ -67,7 +69,7 @@ fn show_count(times: &[u16; 2048], values: &[u64; 2048], first: usize, end: usiz
 {
     let t = &times[..];
     let v = &values[..];
-    io::print_decimal(STDOUT_FILENO, changes(&t[first..end], &v[first..end]));
+    streams::write_decimal(changes(&t[first..end], &v[first..end]));
 }
 
 // How often the lanes change, all taken together.

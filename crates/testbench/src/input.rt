@@ -1,11 +1,11 @@
 // What is read from the input.
 ghost use Prim.Native.Nat.{_<_, _≤_};
-use libc::STDIN_FILENO;
 
-// Fills the bytes from the input; false where it ends before.
+// Fills the bytes from the input; false where it ends before or cannot be read.
 pub fn read_all(bytes: &mut [u8]) -> bool {
     let wanted = bytes.len();
-    io::read_full(STDIN_FILENO, bytes) == wanted
+    let received = streams::read_input(bytes);
+    received.count == wanted
 }
 
 // The words of a list, and whether the input had them all.

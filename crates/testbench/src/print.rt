@@ -1,26 +1,26 @@
-// Numbers and answers in print. The texts stand here, since a text is costly to check where there is much else.
-use libc::STDOUT_FILENO;
-
+// Numbers and answers in print. The texts stand here, since a text is costly to check where there is much else. Where one
+// cannot be written, standard error says so.
 pub fn show_number(n: u64) {
-    io::write_all(STDOUT_FILENO, b" ");
-    io::print_decimal(STDOUT_FILENO, n);
+    streams::write_output(b" ");
+    streams::write_decimal(n);
 }
 
 pub fn show_refused(number: u8) {
-    io::write_all(STDOUT_FILENO, b"refused");
+    streams::write_output(b"refused");
     show_number(number as u64);
 }
 
 // Between two parts of a line.
 pub fn show_semicolon() {
-    io::write_all(STDOUT_FILENO, b"; ");
+    streams::write_output(b"; ");
 }
 
-pub fn end_line() {
-    io::write_all(STDOUT_FILENO, b"\n");
+// False where the line cannot be written to its end.
+pub fn end_line() -> bool {
+    streams::write_output(b"\n")
 }
 
-// For a case that is cut short or too large.
+// For a run that ends before its input does.
 pub fn show_cut() {
-    io::write_all(STDOUT_FILENO, b"cut\n");
+    streams::write_output(b"cut\n");
 }

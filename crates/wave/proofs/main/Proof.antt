@@ -7,11 +7,14 @@ use borrow.Author.Needs.{needs}
 use Rattle.wave.proofs.main.Statement.{statement}
 use Rattle.wave.proofs.main.Tie as tie
 
-slice-aggregate-read-full : tie.Need-slice-aggregate-read-full
-slice-aggregate-read-full c = search needs
+slice-aggregate-read-input : tie.Need-slice-aggregate-read-input
+slice-aggregate-read-input c = search needs
 
-read-full-requires : tie.Need-read-full-requires
-read-full-requires c κs = search needs
+read-input-requires : tie.Need-read-input-requires
+read-input-requires c κs = search needs
+
+returns : tie.Need-returns
+returns c = search needs
 
 array-share-prefix-input : tie.Need-array-share-prefix-input
 array-share-prefix-input c = search needs
@@ -31,35 +34,36 @@ enum-known-length c = search needs
 array-share-prefix-output : tie.Need-array-share-prefix-output
 array-share-prefix-output c = printed-inside _ _ _ (c .before .before .before .before .wave .ensures) (c .before .length .given .1)
 
-slice-aggregate-write-all : tie.Need-slice-aggregate-write-all
-slice-aggregate-write-all c = sym (length-take-le _ _ (printed-inside _ _ _ (c .before .before .before .before .before .wave .ensures) (c .before .before .length .given .1)))
+slice-aggregate-write-output : tie.Need-slice-aggregate-write-output
+slice-aggregate-write-output c = sym (length-take-le _ _ (printed-inside _ _ _ (c .before .before .before .before .before .wave .ensures) (c .before .before .length .given .1)))
 
-write-all-requires : tie.Need-write-all-requires
-write-all-requires c κs = search needs
+write-output-requires : tie.Need-write-output-requires
+write-output-requires c κs = search needs
 
 enum-told : tie.Need-enum-told
 enum-told c = search needs
 
-returns : tie.Need-returns
-returns c = search needs
-
 returns-2 : tie.Need-returns-2
 returns-2 c = search needs
+
+returns-3 : tie.Need-returns-3
+returns-3 c = search needs
 
 pub main-spec : {M : Type 1} → statement M
 main-spec =
     tie.close
     (tie.spec
-    slice-aggregate-read-full
-    read-full-requires
+    slice-aggregate-read-input
+    read-input-requires
+    returns
     array-share-prefix-input
     slice-aggregate-wave
     slice-aggregate-wave-2
     wave-requires
     enum-known-length
     array-share-prefix-output
-    slice-aggregate-write-all
-    write-all-requires
+    slice-aggregate-write-output
+    write-output-requires
     enum-told
-    returns
-    returns-2)
+    returns-2
+    returns-3)

@@ -17,6 +17,9 @@ loop-holds c = search needs
 show-net-requires : tie.Need-show-net-requires Inv-loop μ-loop
 show-net-requires c κs = search needs
 
+returns : tie.Need-returns Inv-loop μ-loop
+returns c = search needs
+
 add-net : tie.Need-add-net Inv-loop μ-loop
 add-net c = search needs
 
@@ -26,10 +29,10 @@ loop-less c = search needs
 loop-again : tie.Need-loop-again Inv-loop μ-loop
 loop-again c = search needs
 
-returns : tie.Need-returns Inv-loop μ-loop
-returns c = search needs
+returns-2 : tie.Need-returns-2 Inv-loop μ-loop
+returns-2 c = search needs
 
 pub show-nets-spec : {M : Type 1} → statement M
 show-nets-spec =
     tie.close
-    (tie.spec Inv-loop μ-loop loop-holds show-net-requires add-net loop-less loop-again returns)
+    (tie.spec Inv-loop μ-loop loop-holds show-net-requires returns add-net loop-less loop-again returns-2)
