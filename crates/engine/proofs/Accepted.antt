@@ -102,7 +102,7 @@ module _ (file before after : List ℕ) {a : Areas} (r : LeftByRun file before a
       record {
         read = read;
         fit = fit;
-        plan-is = plan-kept file (r .entry .plan) read (yes .suits) fit plan;
+        plan-is = plan-kept file read (r .entry .plan) (yes .suits) fit plan;
         values-are = pad-kept (length (r .entry .values)) (allValues (circuitOf file) before after) values room;
-        suits = and-both _ _ (plan-lengths file (r .entry .plan) read (yes .suits) fit plan) (eq-eqb _ _ same);
+        suits = and-both _ _ (plan-lengths file read (r .entry .plan) (yes .suits) fit plan) (eq-eqb _ _ same);
       }

@@ -21,7 +21,7 @@ use Rattle.planner.specs.Questions as plan
 use Rattle.engine.specs.Areas.{Areas, areas}
 use Rattle.engine.specs.Questions.{valuesLength, areasSuit, wordsSuit, ownQuestions, firstQuestions, questionsOf}
 use Rattle.engine.specs.Steps.{Asked}
-use Rattle.circuit.proofs.Parts.{inputs-are, gates-are}
+use Rattle.circuit.proofs.Parts.{inputs-are, gates-are, reading-accepted}
 
 -- ---- questions 10 and 11
 
@@ -75,8 +75,7 @@ module _ (file : List ℕ) (a : Areas) (before after : ℕ) where
 
     module _ {inputs gates : ℕ} (e : r ≡ R.Accepted inputs gates) {n : ℕ} (is : n ≡ firstNo (ownQuestions inputs a before after)) where
       answered : reader.readOf file ≡ accepted (record { inputs = inputs; gates = gates })
-      unfolding reader.onPaper
-      answered = sym f ∙ rw e
+      answered = reading-accepted file f e
 
       own-is : n ≡ firstNo (firstQuestions file a before after)
       unfolding reader.readOf

@@ -19,7 +19,7 @@ use Rattle.circuit.specs.declared.Reading.{Reading}
 use Rattle.circuit.specs.declared.Reading.the-variants as R
 use Rattle.circuit.specs.Questions as reader
 use Rattle.circuit.proofs.Gated.{questions-quiet, questions-numbered}
-use Rattle.circuit.proofs.Parts.{gates-length, inputs-are, gates-are, few}
+use Rattle.circuit.proofs.Parts.{gates-length, inputs-are, gates-are, few, reading-accepted}
 use Rattle.method.specs.declared.Totals.{Totals}
 use Rattle.layout.specs.declared.Progress.{Progress}
 use Rattle.layout.specs.declared.Progress.the-variants as P
@@ -27,7 +27,7 @@ use Rattle.planner.specs.declared.Planning.the-variants as Q
 use Rattle.method.specs.Limits.{mostTotalFrames}
 use Rattle.planner.specs.Limits.{directoryLength, timesLength, faninsLength}
 use Rattle.method.specs.Areas.{Areas, allCleared}
-use Rattle.method.specs.Layout.{allTimes, laid}
+use Rattle.method.specs.Layout.{allTimes, allInertial, laid}
 use Rattle.method.specs.Sums.{fits, totalsOf}
 use Rattle.planner.specs.Questions.{areasSuit, lastQuestion, ownQuestions, questions}
 use Rattle.planner.specs.Plan.{planOf, onPaper}
@@ -73,23 +73,22 @@ plan-room file a e y fit =
     let all = frames-all (circuitOf file) (gatesOf file) (sym (gates-length file)) in
     rw all at (given-all file a e y .room (gatesOf file) (omega arith) (rw all fit))
 
--- so the areas that hold the plan of an accepted file hold it at their own lengths
-pub plan-kept : (file : List ℕ) (a : Areas) {a′ : Areas} → reader.readOf file ≡ accepted (record { inputs = inputsOf file; gates = gatesOf file }) → areasSuit a ≡ true → fits (frames (circuitOf file)) ≡ true
-    → a′ ≡ laid (frames (circuitOf file)) a → a′ ≡ laid (frames (circuitOf file)) a′
-plan-kept file a e y fit is =
-    let all = frames-all (circuitOf file) (gatesOf file) (sym (gates-length file)) in
-    let even = nets-sized file e (gatesOf file) (omega arith) .even in
-    laid-kept (frames (circuitOf file)) is (plan-room file a e y fit) (rw all at even)
+module _ (file : List ℕ) (read : reader.readOf file ≡ accepted (record { inputs = inputsOf file; gates = gatesOf file })) where
+  -- as many inertial indices as times
+  even-rows : length (allInertial (frames (circuitOf file))) ≡ length (allTimes (frames (circuitOf file)))
+  even-rows = rw (frames-all (circuitOf file) (gatesOf file) (sym (gates-length file))) at (nets-sized file read (gatesOf file) (omega arith) .even)
 
--- and keep the lengths of question 10
-pub plan-lengths : (file : List ℕ) (a : Areas) {a′ : Areas} → reader.readOf file ≡ accepted (record { inputs = inputsOf file; gates = gatesOf file }) → areasSuit a ≡ true → fits (frames (circuitOf file)) ≡ true
-    → a′ ≡ laid (frames (circuitOf file)) a → areasSuit a′ ≡ true
-unfolding areasSuit
-plan-lengths file a e y fit is =
-    let all = frames-all (circuitOf file) (gatesOf file) (sym (gates-length file)) in
-    let even = nets-sized file e (gatesOf file) (omega arith) .even in
-    let l = laid-lengths (frames (circuitOf file)) a (plan-room file a e y fit) (rw all at even) in
-    rw (is, l .0, l .1, l .2, l .3) y
+  module _ (a : Areas) (y : areasSuit a ≡ true) (fit : fits (frames (circuitOf file)) ≡ true) {a′ : Areas} (is : a′ ≡ laid (frames (circuitOf file)) a) where
+    -- so the areas that hold the plan of an accepted file hold it at their own lengths
+    pub plan-kept : a′ ≡ laid (frames (circuitOf file)) a′
+    plan-kept = laid-kept (frames (circuitOf file)) is (plan-room file a read y fit) even-rows
+
+    -- and keep the lengths of question 10
+    pub plan-lengths : areasSuit a′ ≡ true
+    unfolding areasSuit
+    plan-lengths =
+        let l = laid-lengths (frames (circuitOf file)) a (plan-room file a read y fit) even-rows in
+        rw (is, l .0, l .1, l .2, l .3) y
 
 -- ---- the ladder
 
@@ -135,10 +134,10 @@ module _ (file : List ℕ) (a : Areas) where
     accepted-read = unless-none (firstNo (reader.questions file)) (reader.inputsAndGatesOf file) (parts .0)
 
     pub accepted-kept : b ≡ laid (frames (circuitOf file)) b
-    accepted-kept = plan-kept file a accepted-read (own .0) plan-fits (says .2)
+    accepted-kept = plan-kept file accepted-read a (own .0) plan-fits (says .2)
 
     pub accepted-lengths : areasSuit b ≡ true
-    accepted-lengths = plan-lengths file a accepted-read (own .0) plan-fits (says .2)
+    accepted-lengths = plan-lengths file accepted-read a (own .0) plan-fits (says .2)
 
   module _ {r : Reading} (f : reader.onPaper r ≡ reader.readOf file) where
     -- 1 to 9
@@ -152,8 +151,7 @@ module _ (file : List ℕ) (a : Areas) where
 
     module _ {inputs gates : ℕ} (e : r ≡ R.Accepted inputs gates) where
       answered : reader.readOf file ≡ accepted (record { inputs = inputs; gates = gates })
-      unfolding reader.onPaper
-      answered = sym f ∙ rw e
+      answered = reading-accepted file f e
 
       rest : firstNo (questions file a) ≡ firstNo (ownQuestions file a)
       unfolding reader.readOf

@@ -21,7 +21,7 @@ use Rattle.circuit.specs.declared.Reading.the-variants as R
 use Rattle.circuit.specs.Questions as reader
 use Rattle.circuit.proofs.Gated.{questions-numbered}
 use Rattle.circuit.proofs.Accepted.{Head, passed}
-use Rattle.circuit.proofs.Parts.{circuit-inputs, gates-length, inputs-are, gates-are, few}
+use Rattle.circuit.proofs.Parts.{circuit-inputs, gates-length, reading-accepted, inputs-are, gates-are, few}
 use Rattle.planner.specs.declared.Planning.{Planning}
 use Rattle.planner.specs.declared.Planning.the-variants as Q
 use Rattle.method.specs.declared.Totals.{Totals}
@@ -59,8 +59,7 @@ areas-pass d t i f v p q r s u = rw (eq-eqb _ _ p, eq-eqb _ _ q, eq-eqb _ _ r, e
 module _ (file : List ℕ) {r : Reading} (e : reader.onPaper r ≡ reader.readOf file) where
   module _ {inputs gates : ℕ} (q : r ≡ R.Accepted inputs gates) where
     answered : reader.readOf file ≡ accepted (record { inputs = inputs; gates = gates })
-    unfolding reader.onPaper
-    answered = sym e ∙ ap reader.onPaper q
+    answered = reading-accepted file e q
 
     pub nets-read : inputs + gates ≡ netsRead (reader.readOf file)
     nets-read = sym (ap netsRead answered)
