@@ -1,4 +1,3 @@
--- The lane table; one frame of the filter; the filter of a net.
-pub mod Table
+-- One frame of the filter; the filter of a net.
 pub mod Keeping
 pub mod Filtering
