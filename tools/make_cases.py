@@ -77,7 +77,7 @@ def planned(nets):
 def outputs(r):
     """A gate's output for each number of ones among its entries. The kinds come in pairs, the second the complement."""
     m = len(r.fanins)
-    first = [(ones == 1, ones == m, ones > 0, ones == 1)[r.kind // 2] for ones in range(m + 1)]
+    first = [(ones == 1, ones == m, ones > 0, ones % 2 == 1)[r.kind // 2] for ones in range(m + 1)]
     return [output != (r.kind % 2 == 1) for output in first]
 
 
@@ -451,7 +451,7 @@ bench([step(3), step(5), Record(XOR, 1, 0, [1, 2]), step(4), Record(XOR, 1, 0, [
       [0, 5, 6, 7], [0, 0, 0, 0])  # H
 bench(wave_circuit(1), [0, 2, 4], [0, 1, 0])
 bench(wave_circuit(2), [0, 2, 4], [0, 0, 0])  # I
-bench([step(2), Record(XOR, 1, 0, [1, 1, 1])], [0, 3], [0, 0])  # J
+bench([step(2), Record(XOR, 1, 0, [1, 1, 1])], [0, 3], [0, 1])  # J, as request P4 changed it
 
 
 # ---- lively nets
@@ -476,6 +476,32 @@ for _ in range(3):
 
 # a net twice in a list, and the last net not the latest
 good(1, [buf, Record(AND, 5, 9, [0, 1, 0, 1]), Record(XNOR, 1, 63, [0, 0])])
+
+# ---- XOR and XNOR of two to eight entries
+
+
+def every_pattern(inputs):
+    """A word for each input: lane L has the levels of the bits of L, inputs 6 and 7 those of L's highest and lowest bit."""
+    return [sum((lane >> (0, 1, 2, 3, 4, 5, 5, 0)[i] & 1) << lane for lane in range(64)) for i in range(inputs)]
+
+
+def backwards(words):
+    return [int(f"{word:064b}"[::-1], 2) for word in words]
+
+
+for kind in (XOR, XNOR):
+    for m in range(2, 9):
+        words = every_pattern(m)
+        for time in (0, 2):  # before the change and after it, all 64 lanes in the line
+            good(m, [Record(kind, 1, 0, list(range(m)))], words, backwards(words), net=m, time=time)
+        # the entries rise one by one and the gate turns at each; an inertial delay of 1 leaves no turn but the last
+        good(1, [step(2 + k) for k in range(m)] + [Record(kind, 1, 0, list(range(1, m + 1)))], [0], [2**64 - 1])
+        good(1, [step(2 + k) for k in range(m)] + [Record(kind, 1, 1, list(range(1, m + 1)))], [0], [2**64 - 1])
+    for fanins in ([0, 0, 0], [0, 0, 1], [0, 1, 0, 1], [2, 2, 2, 0], [0, 1, 1, 2, 2], [0] * 7, [0] * 8, [0, 1, 2, 2, 1, 0, 1]):
+        words = every_pattern(3)  # a net that stands twice counts twice
+        good(3, [Record(kind, 1, 0, fanins)], words, backwards(words), net=3, time=2)
+bench([step(2 + k) for k in range(8)] + [Record(XOR, 1, 0, list(range(1, 9)))], [0, *range(3, 11)], [0, 1, 0, 1, 0, 1, 0, 1, 0])
+bench([step(2 + k) for k in range(7)] + [Record(XNOR, 1, 1, list(range(1, 8)))], [0, *range(3, 10)], [1] * 7 + [0])
 
 
 # ---- question 13
@@ -617,6 +643,10 @@ for l in (0, 1, 31, 32, 62, 63):
 # document 01's example: the level holds over frames that do not change it
 mark(1, wave_circuit(2), ([0], [1]), [(2, 0, 0, 65535, 0), (1, 0, 0, 2, 1), (1, 0, 3, 65535, 0), (1, 0, 2, 3, 0)])
 mark(1, wave_circuit(1), ([0], [1]), [(2, 0, 0, 1, 0), (2, 0, 2, 3, 1), (2, 0, 4, 9, 0), (2, 0, 1, 3, 1)])
+# XOR of 1, 1, 1 is 1, and XNOR of them 0
+for kind, level in ((XOR, 1), (XNOR, 0)):
+    mark(1, [step(2), Record(kind, 1, 0, [1, 1, 1])], ([0], [1]), [(2, 0, 0, 2, 1 - level), (2, 0, 3, 65535, level)])
+    mark(1, [step(2), Record(kind, 1, 0, [1, 1, 1])], ([0], [1]), [(2, 0, 0, 65535, 1 - level)])
 
 # question 12, for each reason, alone and at each end of a list; what is not met before it does not count
 nets = net + 1

@@ -6,7 +6,8 @@
 The circuits and their words are made here from the seed. What the nets then do is worked out by GHDL, a VHDL simulator by
 another hand, from a translation of every circuit: its own pulse rejection is the inertial filter, and every time, word and
 count in stdout is read from the changes that it dumps. Of the paper's rules only the kinds' functions stand here, as VHDL,
-and the potential times, to choose circuits within the limits. The vectors that are turned down come first; their numbers are known by the way they are made.
+and the potential times, to choose circuits within the limits. The vectors that are turned down come first; their numbers
+are known by the way they are made.
 Run it from the repository's root; building and testing need none of it. It needs `ghdl`.
 """
 import random
@@ -73,6 +74,16 @@ def kinds(rng):
     for kind in ANY:
         for m in rng.sample(range(2, 9), 2):
             c.add(kind, rng.randint(1, 3), rng.randint(0, 4), *rng.choices([*range(8), *late], k=m))
+    return c
+
+
+def parities(rng):
+    """XOR and XNOR of 2 to 8 entries, on inputs, late copies of inputs and each other, some entries twice."""
+    c = Circuit(rng.randint(2, 8))
+    nets = [*range(c.inputs)]
+    nets += [c.add(rng.choice(COPY), rng.randint(1, 4), rng.randint(0, 3), rng.randrange(c.inputs)) for _ in range(4)]
+    for m in rng.sample(range(2, 9), 7):
+        nets.append(c.add(rng.choice([XOR, XNOR]), rng.randint(1, 3), rng.randint(0, 3), *rng.choices(nets[-10:], k=m)))
     return c
 
 
@@ -149,7 +160,7 @@ def crowded(rng, more):
 
 ENDS = [1, 2, 31, 32, 62, 63]
 SHAPES = [(loose, range(1, 10), range(10)), (loose, [1, 1, 2, 3], range(4)), (loose, ENDS, [0, *ENDS]),
-          (kinds,), (paths,), (filters,), (ties,), (adder,)]
+          (kinds,), (parities,), (paths,), (filters,), (ties,), (adder,)]
 
 
 def circuits(rng):
@@ -181,9 +192,8 @@ def words(rng, inputs):
 
 
 def function(kind, names):
-    """A gate's function in VHDL. XOR is 1 where exactly one entry is."""
-    only = lambda k: " and ".join(name if i == k else f"(not {name})" for i, name in enumerate(names))
-    first = (names[0], " and ".join(names), " or ".join(names), " or ".join(f"({only(k)})" for k in range(len(names))))
+    """A gate's function in VHDL, whose `xor` of several is 1 where an odd number are, as the kind's is."""
+    first = (names[0], " and ".join(names), " or ".join(names), " xor ".join(names))
     return f"not ({first[kind // 2]})" if kind % 2 else first[kind // 2]
 
 

@@ -5,11 +5,10 @@ use mathlib.Core.Bool.{Bool, true, false, not, Bool·beq}
 use mathlib.Core.List.{List, [], _∷_, map, flatten}
 use lib.ListN.{length, getD, take}
 use Rattle.lists.specs.Ladder.{accepted}
-use lib.Dec.{eqb}
 use Rattle.lists.specs.Tables.{tabulate, some}
 use Rattle.method.specs.declared.Kind.{Kind}
 use Rattle.method.specs.declared.Kind.the-variants.{Buf, Not, And, Nand, Or, Nor, Xor, Xnor}
-use Rattle.method.specs.Kinds.{ones, gateFn, mostFanins, takes}
+use Rattle.method.specs.Kinds.{ones, odd, gateFn, mostFanins, takes}
 use Rattle.method.specs.Frames.{frames}
 use Rattle.method.specs.Words.{lanes, lane, pack}
 use Rattle.method.specs.Packed.{packedValues}
@@ -32,7 +31,7 @@ abbrev pub mask : Bool → ℕ
 mask true = 18446744073709551615
 mask false = 0
 
--- how a kind works on its entries: whether exactly one has to be 1, or at least one, each turned; whether the result is
+-- how a kind works on its entries: whether an odd number has to be 1, or at least one, each turned; whether the result is
 -- flipped
 abbrev pub turned : Kind → Bool
 turned And = true
@@ -44,15 +43,15 @@ turned Nor = false
 turned Xor = false
 turned Xnor = false
 
-abbrev pub exact : Kind → Bool
-exact Xor = true
-exact Xnor = true
-exact Buf = false
-exact Not = false
-exact And = false
-exact Nand = false
-exact Or = false
-exact Nor = false
+abbrev pub parity : Kind → Bool
+parity Xor = true
+parity Xnor = true
+parity Buf = false
+parity Not = false
+parity And = false
+parity Nand = false
+parity Or = false
+parity Nor = false
 
 abbrev pub flipped : Kind → Bool
 flipped Not = true
@@ -65,15 +64,15 @@ flipped Or = false
 flipped Xor = false
 
 abbrev pub ruleOf : Kind → Rule
-ruleOf k = record { kind = k; exact = exact k; turn = mask (turned k); flip = mask (flipped k) }
+ruleOf k = record { kind = k; parity = parity k; turn = mask (turned k); flip = mask (flipped k) }
 
 -- r has the lanes in which some of these words, each turned, is 1
 pub record SomeOf (turn : ℕ) (words : List ℕ) (r : ℕ) : Type 0 where
   pub is : (L : ℕ) → lane L r ≡ some (map (λ (w : ℕ). not (Bool·beq (lane L w) (lane L turn))) words)
 
--- r has the lanes in which exactly one of these words is 1
-pub record OneOf (words : List ℕ) (r : ℕ) : Type 0 where
-  pub is : (L : ℕ) → lane L r ≡ eqb (ones (map (lane L) words)) 1
+-- r has the lanes in which an odd number of these words are 1
+pub record OddOf (words : List ℕ) (r : ℕ) : Type 0 where
+  pub is : (L : ℕ) → lane L r ≡ odd (ones (map (lane L) words))
 
 -- where entry e of the fan-in row at `at` points to, if the fan-ins' frames start at these bases; and the word there
 abbrev pub target : List ℕ → List ℕ → ℕ → ℕ → ℕ

@@ -6,17 +6,17 @@ ghost use Prim.Native.Nat.{_+_};
 ghost use lib.ListN.{length, getD};
 ghost use lib.Seq.{sets};
 ghost use Rattle.method.specs.Kinds.{takes};
-ghost use Rattle.evaluation.specs.Steps.{OneOf, Points, Raw, Row, SomeOf, exact, flipped, gateWord, mask, rawWords, ruleOf, sources, turned};
+ghost use Rattle.evaluation.specs.Steps.{OddOf, Points, Raw, Row, SomeOf, flipped, gateWord, mask, parity, rawWords, ruleOf, sources, turned};
 use method::Kind;
 
 const ALL: u64 = 18446744073709551615;
 
-// How a kind works on words: the lanes in which exactly one entry is 1, or else those in which some entry is, each entry
+// How a kind works on words: the lanes in which an odd number of entries are 1, or else those in which some entry is, each
 // turned first; then the result flipped. To turn or flip is all lanes or none, so that eight kinds need two ways. The kind
 // itself is there for the contracts.
 pub(crate) struct Rule {
     kind: Kind,
-    exact: bool,
+    parity: bool,
     turn: u64,
     flip: u64,
 }
@@ -24,20 +24,20 @@ pub(crate) struct Rule {
 pub(crate) fn rule_of(kind: Kind) -> Rule
     ensures { λ r. ⌜ r ≡ ruleOf kind ⌝ }
 {
-    let exact = is_exact(kind);
+    let parity = is_parity(kind);
     let turn = turn_of(kind);
     let flip = flip_of(kind);
     Rule {
         kind,
-        exact,
+        parity,
         turn,
         flip,
     }
 }
 
-// Whether exactly one entry has to be 1. A table for each of the three: one for all makes a jump that is guessed wrong.
-fn is_exact(kind: Kind) -> bool
-    ensures { λ r. ⌜ r ≡ exact kind ⌝ }
+// Whether an odd number of entries has to be 1. A table for each of the three: one for all makes a jump that is guessed wrong.
+fn is_parity(kind: Kind) -> bool
+    ensures { λ r. ⌜ r ≡ parity kind ⌝ }
 {
     match kind {
         Kind::Buf => false,
@@ -115,7 +115,7 @@ fn pair_word(rule: Rule, x: u64, y: u64) -> u64
 {
     let turn = rule.turn;
     let flip = rule.flip;
-    if rule.exact {
+    if rule.parity {
         return (x ^ y) ^ flip;
     }
     ((x ^ turn) | (y ^ turn)) ^ flip
@@ -135,8 +135,8 @@ pub(crate) fn wide_rows(
     requires { ⌜ Raw (length (now values)) (now bases) (now fanins) (rule .kind) at entries first frames × (rule ≡ ruleOf (rule .kind)) ⌝ }
     ensures { λ _. ⌜ now (values .exit) ≡ sets (now (values .entry)) first (rawWords (now (values .entry)) (now (bases .entry)) (now (fanins .entry)) (rule .kind) entries at frames) ⌝ }
 {
-    if rule.exact {
-        one_rows(values, first, frames, bases, fanins, at, entries, rule);
+    if rule.parity {
+        odd_rows(values, first, frames, bases, fanins, at, entries, rule);
         return;
     }
     some_rows(values, first, frames, bases, fanins, at, entries, rule);
@@ -153,7 +153,7 @@ fn some_rows(
     entries: usize,
     rule: Rule,
 )
-    requires { ⌜ Raw (length (now values)) (now bases) (now fanins) (rule .kind) at entries first frames × (rule ≡ ruleOf (rule .kind)) × (rule .exact ≡ false) ⌝ }
+    requires { ⌜ Raw (length (now values)) (now bases) (now fanins) (rule .kind) at entries first frames × (rule ≡ ruleOf (rule .kind)) × (rule .parity ≡ false) ⌝ }
     ensures { λ _. ⌜ now (values .exit) ≡ sets (now (values .entry)) first (rawWords (now (values .entry)) (now (bases .entry)) (now (fanins .entry)) (rule .kind) entries at frames) ⌝ }
 {
     let mut row = at;
@@ -165,8 +165,8 @@ fn some_rows(
     }
 }
 
-// The words where exactly one entry has to be 1.
-fn one_rows(
+// The words where an odd number of entries has to be 1.
+fn odd_rows(
     values: &mut [u64],
     first: usize,
     frames: usize,
@@ -176,13 +176,13 @@ fn one_rows(
     entries: usize,
     rule: Rule,
 )
-    requires { ⌜ Raw (length (now values)) (now bases) (now fanins) (rule .kind) at entries first frames × (rule ≡ ruleOf (rule .kind)) × (rule .exact ≡ true) ⌝ }
+    requires { ⌜ Raw (length (now values)) (now bases) (now fanins) (rule .kind) at entries first frames × (rule ≡ ruleOf (rule .kind)) × (rule .parity ≡ true) ⌝ }
     ensures { λ _. ⌜ now (values .exit) ≡ sets (now (values .entry)) first (rawWords (now (values .entry)) (now (bases .entry)) (now (fanins .entry)) (rule .kind) entries at frames) ⌝ }
 {
     let mut row = at;
     let mut k = 0;
     while k < frames {
-        values[first + k] = one_of(values, bases, fanins, row, entries) ^ rule.flip;
+        values[first + k] = odd_of(values, bases, fanins, row, entries) ^ rule.flip;
         row += entries;
         k += 1;
     }
@@ -209,21 +209,18 @@ fn some_of(
     word
 }
 
-// The lanes in which exactly one entry of the row is 1: `one` are those with one or more so far, `more` those with two.
-fn one_of(values: &[u64], bases: &[usize; 8], fanins: &[u16], at: usize, entries: usize) -> u64
+// The lanes in which an odd number of entries of the row are 1.
+fn odd_of(values: &[u64], bases: &[usize; 8], fanins: &[u16], at: usize, entries: usize) -> u64
     requires { ⌜ Row (length (now values)) (now bases) (now fanins) at entries ⌝ }
-    ensures { λ r. ⌜ OneOf (sources (now (values .entry)) (now (bases .entry)) (now (fanins .entry)) at entries) r ⌝ }
+    ensures { λ r. ⌜ OddOf (sources (now (values .entry)) (now (bases .entry)) (now (fanins .entry)) at entries) r ⌝ }
 {
-    let mut one: u64 = 0;
-    let mut more: u64 = 0;
+    let mut word: u64 = 0;
     let mut e = 0;
     while e < entries {
-        let word = source(values, bases[e], fanins, at + e);
-        more = more | (one & word);
-        one = one | word;
+        word = word ^ source(values, bases[e], fanins, at + e);
         e += 1;
     }
-    one ^ more
+    word
 }
 
 // The word that the entry at this place of the fan-in area points to, for a fan-in whose frames start at `base`.

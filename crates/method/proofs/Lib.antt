@@ -17,5 +17,6 @@ pub mod Agreement
 pub mod Netwise
 pub mod Parts
 pub mod Bits
+pub mod Parity
 pub mod Lanes
 pub mod Bench

@@ -1,5 +1,6 @@
--- The bench sheet: rows A to J, as the rules give them and as the sheet prints them, and with them the wave program's example
--- and an inertial index of frame 0 other than 0. `rows` in `proofs/Bench` settles them together.
+-- The bench sheet: rows A to J, as the rules give them and as the sheet prints them (J as request P4 changed it), and with
+-- them the wave program's example and an inertial index of frame 0 other than 0. `rows` in `proofs/Bench` settles them
+-- together.
 use Prim.Native.Nat.{ℕ}
 use mathlib.Core.Path.{_≡_}
 use mathlib.Core.Bool.{Bool, true, false}
@@ -88,7 +89,7 @@ asPrinted =
       G = hi ∷ hi ∷ hi ∷ [];
       H = lo ∷ lo ∷ lo ∷ lo ∷ [];
       I = lo ∷ lo ∷ lo ∷ [];
-      J = lo;
+      J = hi;
       waveTimes = (0 ∷ 1 ∷ []) ∷ (0 ∷ 3 ∷ []) ∷ (0 ∷ 2 ∷ 4 ∷ []) ∷ [];
       waveLevels = (lo ∷ hi ∷ []) ∷ (hi ∷ lo ∷ []) ∷ (lo ∷ hi ∷ lo ∷ []) ∷ [];
       frame0 = 1 ∷ 0 ∷ [];

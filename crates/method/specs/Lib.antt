@@ -25,6 +25,7 @@ pub mod Packed
 pub mod Values
 -- What holds: proved under proofs/.
 pub mod Bench
+pub mod Parity
 pub mod Netwise
 pub mod Agreement
 pub mod Lanes

@@ -3,14 +3,14 @@
 use native.Mathlib.Omega.{arith}
 use lib.Bits.{bitXor, or-lt, xor-lt}
 use Rattle.method.specs.Words.{lanes}
-use Rattle.evaluation.proofs.Tally.{some-pair, one-pair, made-some, made-one}
+use Rattle.evaluation.proofs.Making.{some-pair, odd-pair, made-some, made-odd}
 use Rattle.evaluation.proofs.rows.pair_word.Statement.{statement}
 use Rattle.evaluation.proofs.rows.pair_word.Tie as tie
 
 returns : tie.Need-returns
 returns c =
     let s = c .before .args in
-    made-one (s .rule) (c .before .pre .1) (c .if1 .taken) (one-pair (s .x) (s .y)) (xor-lt lanes (s .x) (s .y) (omega arith) (omega arith))
+    made-odd (s .rule) (c .before .pre .1) (c .if1 .taken) (odd-pair (s .x) (s .y)) (xor-lt lanes (s .x) (s .y) (omega arith) (omega arith))
 
 returns-2 : tie.Need-returns-2
 returns-2 c =

@@ -4,8 +4,8 @@ use borrow.Author.Needs.{needs}
 use Rattle.evaluation.proofs.rows.rule_of.Statement.{statement}
 use Rattle.evaluation.proofs.rows.rule_of.Tie as tie
 
-is-exact-requires : tie.Need-is-exact-requires
-is-exact-requires c κs = search needs
+is-parity-requires : tie.Need-is-parity-requires
+is-parity-requires c κs = search needs
 
 turn-of-requires : tie.Need-turn-of-requires
 turn-of-requires c κs = search needs
@@ -14,7 +14,7 @@ flip-of-requires : tie.Need-flip-of-requires
 flip-of-requires c κs = search needs
 
 returns : tie.Need-returns
-returns c = rw (c .before .before .is-exact .ensures, c .before .turn-of .ensures, c .flip-of .ensures)
+returns c = rw (c .before .before .is-parity .ensures, c .before .turn-of .ensures, c .flip-of .ensures)
 
 pub rule-of-spec : {M : Type 1} → statement M
-rule-of-spec = tie.close (tie.spec is-exact-requires turn-of-requires flip-of-requires returns)
+rule-of-spec = tie.close (tie.spec is-parity-requires turn-of-requires flip-of-requires returns)

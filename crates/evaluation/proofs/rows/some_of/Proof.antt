@@ -7,7 +7,7 @@ use native.Mathlib.Numerals.{add-one}
 use Rattle.lists.specs.Tables.{tabulateFrom}
 use Rattle.lists.proofs.Tabled.{tabulate-snoc}
 use Rattle.evaluation.specs.Steps.{SomeOf, sources}
-use Rattle.evaluation.proofs.Tally.{some-none, some-more}
+use Rattle.evaluation.proofs.Making.{some-none, some-more}
 use Rattle.evaluation.proofs.Writing.{row-points}
 use borrow.Author.Needs.{needs}
 use Rattle.evaluation.proofs.rows.some_of.Statement.{statement}

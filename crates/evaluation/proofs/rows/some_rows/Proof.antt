@@ -3,7 +3,7 @@
 use Prim.Native.Nat.{_-_}
 use native.Mathlib.Omega.{arith}
 use Rattle.lists.proofs.Tabled.{from-length}
-use Rattle.evaluation.proofs.Tally.{made-some}
+use Rattle.evaluation.proofs.Making.{made-some}
 use Rattle.evaluation.proofs.Writing.{Written, written-none, written-row, written-more, written-all}
 use Rattle.evaluation.proofs.rows.some_rows.Statement.{statement}
 use Rattle.evaluation.proofs.rows.some_rows.Tie as tie

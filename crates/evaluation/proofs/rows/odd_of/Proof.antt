@@ -1,4 +1,4 @@
--- `evaluation::rows::one_of` meets its contract. After e entries the tally is that of their words.
+-- `evaluation::rows::odd_of` meets its contract. After e entries the word has the lanes in which an odd number of these are 1.
 -- Assumes nothing.
 use Prim.Native.Nat.{_-_, _≤_}
 use mathlib.Core.Path.{_≡_}
@@ -6,22 +6,22 @@ use native.Mathlib.Omega.{arith}
 use native.Mathlib.Numerals.{add-one}
 use Rattle.lists.specs.Tables.{tabulateFrom}
 use Rattle.lists.proofs.Tabled.{tabulate-snoc}
-use Rattle.evaluation.specs.Steps.{sources}
-use Rattle.evaluation.proofs.Tally.{Tally, tally-none, tally-more, tally-one}
+use Rattle.evaluation.specs.Steps.{OddOf, sources}
+use Rattle.evaluation.proofs.Making.{odd-none, odd-more}
 use Rattle.evaluation.proofs.Writing.{row-points}
 use borrow.Author.Needs.{needs}
-use Rattle.evaluation.proofs.rows.one_of.Statement.{statement}
-use Rattle.evaluation.proofs.rows.one_of.Tie as tie
+use Rattle.evaluation.proofs.rows.odd_of.Statement.{statement}
+use Rattle.evaluation.proofs.rows.odd_of.Tie as tie
 
 abbrev Inv-loop : tie.InvT-loop
-Inv-loop values bases fanins at entries one₀ more₀ e₀ one more e = (e ≤ entries) × Tally (sources values bases fanins at e) one more
+Inv-loop values bases fanins at entries word₀ e₀ word e = (e ≤ entries) × OddOf (sources values bases fanins at e) word
 
 abbrev μ-loop : tie.MeasureT-loop
-μ-loop values bases fanins at entries one₀ more₀ e₀ one more e = entries - e
+μ-loop values bases fanins at entries word₀ e₀ word e = entries - e
 
 loop-holds : tie.Need-loop-holds Inv-loop μ-loop
 unfolding tabulateFrom
-loop-holds c = (omega arith, tally-none)
+loop-holds c = (omega arith, odd-none)
 
 mul-source : tie.Need-mul-source Inv-loop μ-loop
 mul-source c = search needs
@@ -42,15 +42,15 @@ loop-less : tie.Need-loop-less Inv-loop μ-loop
 loop-less c = search needs
 
 loop-again : tie.Need-loop-again Inv-loop μ-loop
-loop-again c = (omega arith, rw (add-one (c .before .before .before .loop .e), tabulate-snoc (c .before .before .before .loop .e) _, c .source .ensures) (tally-more (c .before .before .before .loop .inv .1) _))
+loop-again c = (omega arith, rw (add-one (c .before .before .before .loop .e), tabulate-snoc (c .before .before .before .loop .e) _, c .source .ensures) (odd-more (c .before .before .before .loop .inv .1) _))
 
 returns : tie.Need-returns Inv-loop μ-loop
 returns c =
     let q : c .before .loop .e ≡ c .before .before .before .before .args .entries = omega arith in
-    tally-one (rw q at (c .before .loop .inv .1))
+    rw q at (c .before .loop .inv .1)
 
-pub one-of-spec : {M : Type 1} → statement M
-one-of-spec =
+pub odd-of-spec : {M : Type 1} → statement M
+odd-of-spec =
     tie.close
     (tie.spec
     Inv-loop

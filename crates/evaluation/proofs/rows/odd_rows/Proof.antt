@@ -1,11 +1,11 @@
--- `evaluation::rows::one_rows` meets its contract. The rows are read as they were, since they point below what is written.
+-- `evaluation::rows::odd_rows` meets its contract. The rows are read as they were, since they point below what is written.
 -- Assumes nothing.
 use Prim.Native.Nat.{_-_}
 use native.Mathlib.Omega.{arith}
-use Rattle.evaluation.proofs.Tally.{made-one}
+use Rattle.evaluation.proofs.Making.{made-odd}
 use Rattle.evaluation.proofs.Writing.{Written, written-none, written-row, written-more, written-all}
-use Rattle.evaluation.proofs.rows.one_rows.Statement.{statement}
-use Rattle.evaluation.proofs.rows.one_rows.Tie as tie
+use Rattle.evaluation.proofs.rows.odd_rows.Statement.{statement}
+use Rattle.evaluation.proofs.rows.odd_rows.Tie as tie
 
 abbrev Inv-loop : tie.InvT-loop
 Inv-loop values₀ first frames bases fanins at entries rule row₀ k₀ values row k = Written values₀ bases fanins (rule .kind) at entries first frames values row k
@@ -16,8 +16,8 @@ abbrev μ-loop : tie.MeasureT-loop
 loop-holds : tie.Need-loop-holds Inv-loop μ-loop
 loop-holds c = written-none _ _ _ _ _ _ _ _
 
-one-of-requires : tie.Need-one-of-requires Inv-loop μ-loop
-one-of-requires c κs = written-row _ _ _ _ _ _ _ _ (c .before .before .before .before .before .pre .0) (c .before .before .loop .inv) (c .before .loop-test .taken)
+odd-of-requires : tie.Need-odd-of-requires Inv-loop μ-loop
+odd-of-requires c κs = written-row _ _ _ _ _ _ _ _ (c .before .before .before .before .before .pre .0) (c .before .before .loop .inv) (c .before .loop-test .taken)
 
 add-values : tie.Need-add-values Inv-loop μ-loop
 add-values c = omega (arith, c .before .before .before .before .before .before .before .pre .0 .room, c .before .before .before .before .loop .inv .left .same)
@@ -38,7 +38,7 @@ loop-less : tie.Need-loop-less Inv-loop μ-loop
 loop-less c = omega arith
 
 loop-again : tie.Need-loop-again Inv-loop μ-loop
-loop-again c = written-more _ _ _ _ _ _ _ _ (c .before .before .before .before .before .before .before .pre .0) (c .before .before .before .before .loop .inv) (c .before .before .before .loop-test .taken) _ (made-one (c .before .before .before .before .before .before .before .args .rule) (c .before .before .before .before .before .before .before .pre .1) (c .before .before .before .before .before .before .before .pre .2) (c .before .one-of .ensures) (omega arith))
+loop-again c = written-more _ _ _ _ _ _ _ _ (c .before .before .before .before .before .before .before .pre .0) (c .before .before .before .before .loop .inv) (c .before .before .before .loop-test .taken) _ (made-odd (c .before .before .before .before .before .before .before .args .rule) (c .before .before .before .before .before .before .before .pre .1) (c .before .before .before .before .before .before .before .pre .2) (c .before .odd-of .ensures) (omega arith))
 
 same-length : tie.Need-same-length Inv-loop μ-loop
 same-length c = c .before .loop .inv .left .same
@@ -46,14 +46,14 @@ same-length c = c .before .loop .inv .left .same
 returns : tie.Need-returns Inv-loop μ-loop
 returns c = written-all _ _ _ _ _ _ _ _ (c .before .before .before .before .pre .0) (c .before .loop .inv) (c .loop-test .left)
 
-pub one-rows-spec : {M : Type 1} → statement M
-one-rows-spec =
+pub odd-rows-spec : {M : Type 1} → statement M
+odd-rows-spec =
     tie.close
     (tie.spec
     Inv-loop
     μ-loop
     loop-holds
-    one-of-requires
+    odd-of-requires
     add-values
     mul-values
     slice-write-values
