@@ -15,7 +15,7 @@ use Rattle.method.specs.declared.Kind.{Kind}
 use Rattle.method.specs.declared.Kind.the-variants.{Buf, Not, And, Nand, Or, Nor, Xor, Xnor}
 use Rattle.method.specs.Kinds.{ones, odd, gateFn, takes}
 use Rattle.method.specs.Words.{lanes, lane}
-use Rattle.method.proofs.Parity.{odd-snoc}
+use Rattle.method.proofs.Parity.{odd-one, odd-snoc}
 use Rattle.method.proofs.Bits.{or-lane, xor-lane, not-lane, zero-lane, pack-is}
 use Rattle.evaluation.specs.declared.rows.Rule.{Rule}
 use Rattle.evaluation.specs.Steps.{SomeOf, OddOf, gateWord, mask, turned, parity, flipped, ruleOf}
@@ -52,14 +52,8 @@ pub odd-more : {word : ℕ} {ws : List ℕ} → OddOf ws word → (w : ℕ) → 
 odd-more {word} {ws} t w =
     record { is = λ L. xor-lane L word w ∙ rw (t .is L, map-snoc (lane L) ws w) (sym (odd-snoc (map (lane L) ws) (lane L w))) }
 
-odd-of-two : (a b : Bool) → xor a b ≡ odd (ones (a ∷ b ∷ []))
-odd-of-two true true = refl
-odd-of-two true false = refl
-odd-of-two false true = refl
-odd-of-two false false = refl
-
 pub odd-pair : (x y : ℕ) → OddOf (x ∷ y ∷ []) (bitXor x y)
-odd-pair x y = record { is = λ L. xor-lane L x y ∙ odd-of-two (lane L x) (lane L y) }
+odd-pair x y = odd-more {word = x} {ws = x ∷ []} (record { is = λ L. sym (odd-one (lane L x)) }) y
 
 -- ---- what a kind makes of them, on bits
 

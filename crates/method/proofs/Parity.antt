@@ -25,6 +25,10 @@ not-differs true false = refl
 not-differs false true = refl
 not-differs false false = refl
 
+pub odd-one : (b : Bool) → odd (ones (b ∷ [])) ≡ b
+odd-one true = refl
+odd-one false = refl
+
 pub odd-snoc : (bs : List Bool) (b : Bool) → odd (ones (bs ++ (b ∷ []))) ≡ not (Bool·beq (odd (ones bs)) b)
 odd-snoc [] true = refl
 odd-snoc [] false = refl
@@ -40,10 +44,7 @@ two-xor false false = refl
 
 two-xnor : (a b : Bool) → gateFn Xnor (a ∷ b ∷ []) ≡ not (eqb (ones (a ∷ b ∷ [])) 1)
 unfolding gateFn
-two-xnor true true = refl
-two-xnor true false = refl
-two-xnor false true = refl
-two-xnor false false = refl
+two-xnor a b = ap not (two-xor a b)
 
 pub two-entries : TwoEntries
 two-entries = record { xor = two-xor; xnor = two-xnor }
