@@ -4,6 +4,7 @@ r"""Writes an input of the wave program, or a circuit file alone, from a text th
     python3 tools/circuit_file.py examples/first.txt > first.wave               an input of the wave program
     python3 tools/circuit_file.py --circuit examples/first.txt > first.circuit  the circuit file alone
     target/bin/wave < first.wave | python3 tools/circuit_file.py --draw examples/first.txt
+    target/bin/wave < first.wave | python3 tools/circuit_file.py --draw --at 3 examples/first.txt
 
 The text has a line for each net, the inputs first. What follows a # is a comment.
 
@@ -12,7 +13,8 @@ The text has a line for each net, the inputs first. What follows a # is a commen
     pulse = AND a not_a, delay 1, inertial 1  the inertial delay is 0 if it is not given
 
 Nets are numbered in the order of their lines, from 0. The levels go into lane 0; the other lanes are 0. In a drawing a
-column is a unit of time, _ is level 0, - is level 1, and / and \ stand at the times of the changes.
+column is a unit of time, _ is level 0, - is level 1, and / and \ stand at the times of the changes. With --at the frame of
+each net under that time follows: its level, when it began, and when the next begins.
 """
 import argparse
 import re
@@ -25,7 +27,7 @@ Gate = namedtuple("Gate", "name kind fanins delay inertial")
 # ---- The bytes: all that this script knows of the file format and its limits
 
 KINDS = ["BUF", "NOT", "AND", "NAND", "OR", "NOR", "XOR", "XNOR"]  # a kind's number is its place
-MOST_INPUTS, MOST_GATES, MOST_FANINS, MOST_DELAY = 32, 128, 8, 63
+MOST_INPUTS, MOST_GATES, MOST_FANINS, MOST_DELAY, MOST_TIME = 32, 128, 8, 63, 65535
 
 
 def two(number):
@@ -140,8 +142,15 @@ def picture(frames, end):
     return drawn
 
 
-def draw(names, output):
-    """The lines of the wave program's output as a picture."""
+def frame_under(frames, time):
+    """A net's frame that holds the time: its level, when it began, and when the next begins."""
+    began = max(t for t in frames if t <= time)
+    later = [t for t in frames if t > time]
+    return f"{frames[began]} from {began}" + (f" until {min(later)}" if later else ", no end")
+
+
+def draw(names, output, at=None):
+    """The lines of the wave program's output as a picture; with a time, the frames under it too."""
     if output[:1] and output[0].startswith("refused"):
         return [output[0] + " (README.md has a table of the refusals)"]
     if len(output) != len(names):
@@ -149,9 +158,9 @@ def draw(names, output):
     waves = [frames_of(line) for line in output]
     end, width = max(max(frames) for frames in waves) + 3, max(map(len, names))
     ruler = "".join(f"{time:<5}" for time in range(0, end, 5)).rstrip()
-    return [f"    {'':{width}}  {ruler}"] + [
-        f"{net:3} {name:{width}}  {picture(frames, end)}" for net, (name, frames) in enumerate(zip(names, waves))
-    ]
+    rows = [(f"{net:3} {name:{width}}  ", frames) for net, (name, frames) in enumerate(zip(names, waves))]
+    drawn = [f"    {'':{width}}  {ruler}"] + [row + picture(frames, end) for row, frames in rows]
+    return drawn if at is None else drawn + ["", f"at time {at}"] + [row + frame_under(frames, at) for row, frames in rows]
 
 
 def main():
@@ -159,12 +168,15 @@ def main():
     parser.add_argument("text", help="the text of the circuit, such as examples/first.txt")
     parser.add_argument("--circuit", action="store_true", help="write the circuit file alone")
     parser.add_argument("--draw", action="store_true", help="draw the wave program's output, read from standard input")
+    parser.add_argument("--at", type=int, metavar="TIME", help="with --draw: each net's frame under this time too")
     asked = parser.parse_args()
+    if asked.at is not None and not (asked.draw and 0 <= asked.at <= MOST_TIME):
+        parser.error(f"--at takes a time from 0 to {MOST_TIME}, and goes with --draw")
     try:
         with open(asked.text, encoding="utf-8-sig", errors="replace") as text:
             inputs, gates = read_text(text.read().split("\n"))
         if asked.draw:
-            print("\n".join(draw([net.name for net in inputs + gates], sys.stdin.read().splitlines())))
+            print("\n".join(draw([net.name for net in inputs + gates], sys.stdin.read().splitlines(), asked.at)))
         elif sys.stdout.isatty():
             raise Fault("the output is no text: send it to a file with > FILE")
         else:

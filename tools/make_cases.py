@@ -149,9 +149,14 @@ def look_fault(times, values, lane):
             15 if times != sorted({0, *times}) else 16 if lane > 63 else 0)
 
 
+def frame_at(times, time):
+    """When the frame began that holds the time, and when the next begins."""
+    return f"{max(t for t in times if t <= time)} {min((t for t in times if t > time), default='no end')}"
+
+
 def level_of(times, values, lane, time):
     no = look_fault(times, values, lane)
-    return f"refused {no}" if no else str(level_at(times, values, time) >> lane & 1)
+    return f"refused {no}" if no else f"{level_at(times, values, time) >> lane & 1} {frame_at(times, time)}"
 
 
 def count_of(times, values, lane):
@@ -245,7 +250,8 @@ def lanes_seen(run, net, time):
     no = look_fault(times, values, 63)
     if no:
         return f"refused {no}"
-    return f"{level_at(times, values, time):016x} {summed(int(count_of(times, values, lane)) for lane in range(64))}"
+    counts = summed(int(count_of(times, values, lane)) for lane in range(64))
+    return f"{level_at(times, values, time):016x} {frame_at(times, time)} {counts}"
 
 
 def case_line(number, inputs, run, lengths, rubbish, net, time):
@@ -745,6 +751,25 @@ for turn in range(60):
     n = rng.choice([1, 2, 3, 8, 40, 64])
     times = [0] + sorted(rng.sample(range(1, rng.choice([100, 700, 65536])), n - 1))
     look(times, random_words(n), rng.randrange(64), max(0, rng.choice(times + [65535]) - rng.choice([0, 0, 1])))
+
+# ---- until when a level holds: the frame is the potential frame, also where the level stays at its end; the last has no end
+
+for level in (0, 1):  # one level in three frames, and only then another
+    for time in (0, 4, 5, 6, 7, 8, 9, 10, 65535):
+        look([0, 5, 7, 9], [level << 40] * 3 + [(1 - level) << 40], 40, time)
+for n in (2, 63, 64):  # the first frame, the second, the last but one and the last, just before, at and just behind
+    times = [0] + [1000 * k - 1 for k in range(1, n)]
+    for k in sorted({0, 1, n - 2, n - 1}):
+        for time in range(max(0, times[k] - 1), times[k] + 2):
+            look(times, random_words(n), 63, time)
+for time in (65534, 65535):  # a frame of one unit at the end of all times
+    look([0, 65535], [0, 1], 0, time)
+ends = frames(1, comb(64))[18][0][-3:]
+for time in (0, 1, 65535, *ends, *(t - 1 for t in ends)):  # after a run: the net of 64 frames, and one that it reads
+    good(1, comb(64), [0], [2**64 - 1], net=18, time=time)
+    good(1, comb(64), [0], [2**64 - 1], net=17, time=time)
+for time in range(9):  # a pulse of 2 units that an inertial delay of 2 swallows: its frames are there all the same
+    good(1, wave_circuit(2) + [Record(BUF, 3, 0, [2])], [0], [2**64 - 1], net=3, time=time)
 
 # ---- written out; a last case that the program's buffers do not hold ends each run
 

@@ -8,14 +8,15 @@
 //   each of its four areas as it leaves them;
 // - what Run's questions 1 to 11 answer, as for the reader;
 // - what Run answers, as for Plan, and a sum of each of the five areas as it leaves them;
-// - where there was a run, what is seen of the net in its parts of the times and the values as Run left them: Level at the
-//   time in all lanes, as 16 hexadecimal digits in which bit L is lane L, and a sum of Count in lanes 0 to 63.
+// - where there was a run, what is seen of the net in its parts of the times and the values as Run left them: the level at
+//   the time in all lanes, as 16 hexadecimal digits in which bit L is lane L; when the frame began that Level names in lane
+//   63, and when the next begins, or `no end`; and a sum of Count in lanes 0 to 63.
 // In each place `refused` with its number stands for a refusal. How areas are filled before a call and how numbers are summed
 // stands in the same place.
 //
 // `l`, a look at parts that no run made. First 5 bytes: how many times and how many values (1 each), a lane (1) and a time
-// (2). Then the times (2 each) and the values (8 each). The line has what Level and what Count answer: a level and a number,
-// or `refused` with the number.
+// (2). Then the times (2 each) and the values (8 each). The line has what Level answers, the level, when its frame began, and
+// when the next begins, or `no end`; and what Count answers, a number; or for each `refused` with the number.
 //
 // The program stops at the end of the input. At another first byte, at a case that is cut short and at one that its buffers
 // do not hold (80 times or values are the most) it prints `cut` and stops, and so it does where it cannot read or write on,

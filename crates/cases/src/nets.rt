@@ -1,6 +1,7 @@
 // What Level and Count see of a net.
 ghost use Prim.Native.Nat.{_≤_};
 use crate::print::bit;
+use crate::print::show_frame;
 use looks::Counted;
 use looks::Seen;
 use method::Net;
@@ -61,11 +62,12 @@ fn show_frames(times: &[u16; 2100], values: &[u64; 2100], span: Span, time: Time
     show_lanes(&t[first..end], &v[first..end], time);
 }
 
-// Prints the level at the time in all lanes, and a sum of the lanes' counts.
+// Prints the level at the time in all lanes, the frame that lane 63 has there, and a sum of the lanes' counts.
 fn show_lanes(times: &[u16], values: &[u64], time: Time) {
     match looks::level(times, values, 63, time) {
-        Seen::Level(_) => {
+        Seen::Level(seen) => {
             streams::write_hex(levels_of(times, values, time), 16);
+            show_frame(seen);
             show_number(counts_of(times, values));
         }
         Seen::Refused(number) => show_refused(number),
@@ -85,7 +87,7 @@ fn levels_of(times: &[u16], values: &[u64], time: Time) -> u64 {
 
 fn bit_of(answer: Seen) -> u64 {
     match answer {
-        Seen::Level(level) => bit(level),
+        Seen::Level(seen) => bit(seen.level),
         Seen::Refused(_) => 0,
     }
 }

@@ -2,6 +2,8 @@
 use circuit::Reading;
 use looks::Counted;
 use looks::Seen;
+use looks::Sight;
+use looks::Until;
 use planner::Planning;
 use testbench::show_number;
 use testbench::show_refused;
@@ -38,11 +40,27 @@ pub(crate) fn show_planning(answer: Planning) -> bool {
 
 pub(crate) fn show_seen(answer: Seen) {
     match answer {
-        Seen::Level(level) => {
-            streams::write_decimal(bit(level));
+        Seen::Level(seen) => {
+            streams::write_decimal(bit(seen.level));
+            show_frame(seen);
         }
         Seen::Refused(number) => show_refused(number),
     }
+}
+
+// When the frame began, and when the next begins.
+pub(crate) fn show_frame(seen: Sight) {
+    let began = seen.began;
+    let until = seen.until;
+    show_number(began.0 as u64);
+    match until {
+        Until::Next(next) => show_number(next.0 as u64),
+        Until::NoEnd => show_no_end(),
+    }
+}
+
+fn show_no_end() {
+    streams::write_output(b" no end");
 }
 
 pub(crate) fn bit(level: bool) -> u64 {

@@ -7,7 +7,7 @@ use mathlib.Core.List.{List, map}
 use lib.ListN.{length}
 use Rattle.lists.specs.Ladder.{firstNo}
 use Rattle.method.specs.Frames.{frames}
-use Rattle.method.specs.Look.{level, changes}
+use Rattle.method.specs.Look.{changes}
 use Rattle.method.specs.Words.{lane}
 use Rattle.method.proofs.Netwise.{net-by-net}
 use Rattle.circuit.specs.File.{circuitOf}
@@ -25,8 +25,9 @@ use Rattle.engine.specs.Areas.{Areas, allCleared}
 use Rattle.method.specs.Values.{netCount}
 use Rattle.engine.specs.Questions as engine
 use Rattle.engine.specs.Run.{filled, runLeft, runOf}
+use Rattle.looks.specs.Sight.{sight}
 use Rattle.looks.specs.Look.{lookQuestions, levelOf, countOf}
-use Rattle.engine.specs.After.{After, Alike}
+use Rattle.engine.specs.After.{Alike}
 use Rattle.engine.proofs.Answering.{all-numbered}
 use Rattle.looks.proofs.Seeing.{look-numbered}
 use Rattle.engine.proofs.Accepted.{held}
@@ -39,10 +40,9 @@ use Rattle.marking.specs.Mark.{markOf}
 use Rattle.marking.proofs.Laddered.{ladder-numbered, ladder-run}
 use Rattle.marking.proofs.Marked.{mark-ran}
 use Rattle.demands.specs.Answers.{SameRefusal}
-use Rattle.demands.specs.Runs.{Ran}
 use Rattle.demands.specs.Demands.{Demand1, Demand2Method, Demand2Lengths, Demand2Patterns, Demand2Marking, Demand3Level, Demand3Changes, TwoRuns, Demand3Alike, Demands}
 use Rattle.demands.proofs.Deciding.{answered, leaves, same-refusal}
-use Rattle.demands.proofs.Holding.{engine-ran}
+use Rattle.demands.proofs.Holding.{engine-ran, past-run}
 use Rattle.demands.proofs.Meeting.{passes, passes-machine, fails}
 use Rattle.demands.proofs.Alike.{marked-alike}
 
@@ -70,15 +70,11 @@ demand-1 =
       mark-areas = λ file before after a list.
           leaves (firstNo (marking.questions file a (length before) (length after) list)) (verdict (circuitOf file) before after list) (filled (circuitOf file) before after a) (allCleared a) a;
       mark-as-run = mark-as-run;
-      level = λ times values L t. answered (lookQuestions times values L) (look-numbered times values L) (level times (map (lane L) values) t);
+      level = λ times values L t. answered (lookQuestions times values L) (look-numbered times values L) (sight times (map (lane L) values) t);
       count = λ times values L. answered (lookQuestions times values L) (look-numbered times values L) (changes (map (lane L) values));
     }
 
 -- ---- demand 2
-
-module _ (file before after : List ℕ) (left : Areas) (r : Ran file before after left) where
-  past-run : After file before after left
-  past-run = after-runs .after-run file before after left (engine-ran file before after r)
 
 demand-2-method : Demand2Method
 unfolding circuit.inputsAndGatesOf
@@ -122,7 +118,7 @@ demand-2-patterns =
       run = after-runs .words-alike;
       mark = mark-patterns;
       level = λ times values values′ L t e.
-          rw (same-questions times values values′ L e) (same-refusal (firstNo (lookQuestions times values′ L)) (level times (map (lane L) values) t) (level times (map (lane L) values′) t));
+          rw (same-questions times values values′ L e) (same-refusal (firstNo (lookQuestions times values′ L)) (sight times (map (lane L) values) t) (sight times (map (lane L) values′) t));
       count = λ times values values′ L e.
           rw (same-questions times values values′ L e) (same-refusal (firstNo (lookQuestions times values′ L)) (changes (map (lane L) values)) (changes (map (lane L) values′)));
     }

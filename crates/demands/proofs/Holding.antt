@@ -9,6 +9,7 @@ use Rattle.engine.specs.Areas.{Areas}
 use Rattle.engine.specs.Questions.{firstQuestions}
 use Rattle.engine.specs.After as engine
 use Rattle.engine.proofs.Accepted.{parts, none}
+use Rattle.engine.proofs.After.{after-runs}
 use Rattle.marking.proofs.Marked.{mark-ran}
 use Rattle.demands.specs.Runs.{Ran, by-run, by-mark}
 
@@ -16,6 +17,9 @@ use Rattle.demands.specs.Runs.{Ran, by-run, by-mark}
 pub engine-ran : (file before after : List ℕ) {left : Areas} → Ran file before after left → engine.LeftByRun file before after left
 engine-ran file before after (by-run r) = r
 engine-ran file before after (by-mark list v m) = mark-ran file before after (m .entry) list (m .marked)
+
+pub past-run : (file before after : List ℕ) (left : Areas) → Ran file before after left → engine.After file before after left
+past-run file before after left r = after-runs .after-run file before after left (engine-ran file before after r)
 
 module _ (file before after : List ℕ) {left : Areas} (r : engine.LeftByRun file before after left) where
   pub first-none-fails : firstNo (firstQuestions file (r .entry) (length before) (length after)) ≡ 0

@@ -5,3 +5,4 @@ pub mod Holding
 pub mod Meeting
 pub mod Alike
 pub mod Demands
+pub mod Spans

@@ -14,7 +14,7 @@ use Rattle.lists.specs.Every.{Every}
 use Rattle.method.specs.Times.{among}
 use Rattle.method.specs.Frames.{frames}
 use Rattle.method.specs.Traces.{traceAt}
-use Rattle.method.specs.Look.{level, changes}
+use Rattle.method.specs.Look.{changes}
 use Rattle.method.specs.Machine.{machine}
 use Rattle.method.specs.Words.{lanes, lane}
 use Rattle.method.specs.Packed.{laneOf}
@@ -33,6 +33,7 @@ use Rattle.engine.specs.Areas.{Areas, allCleared}
 use Rattle.method.specs.Values.{netCount, allValues}
 use Rattle.engine.specs.Questions as engine
 use Rattle.engine.specs.Run.{filled, runOf}
+use Rattle.looks.specs.Sight.{sight}
 use Rattle.looks.specs.Look.{lookQuestions, levelOf, countOf}
 use Rattle.engine.specs.After.{LeftByRun, timesOf, levelIn, countIn, NetParts, lastTime}
 use Rattle.expectations.specs.declared.Expectation.{Expectation}
@@ -64,7 +65,7 @@ pub record Demand1 : Type 0 where
   -- where the list passes question 12, Mark leaves the areas as Run does
   pub mark-as-run : (file before after : List ℕ) (a : Areas) (list : List Expectation) → listSuits (netCount (circuitOf file)) list ≡ true
       → markOf file before after a list .left ≡ runOf file before after a .left
-  pub level : (times values : List ℕ) (L t : ℕ) → Answered (lookQuestions times values L) (level times (map (lane L) values) t) (levelOf times values L t)
+  pub level : (times values : List ℕ) (L t : ℕ) → Answered (lookQuestions times values L) (sight times (map (lane L) values) t) (levelOf times values L t)
   pub count : (times values : List ℕ) (L : ℕ) → Answered (lookQuestions times values L) (changes (map (lane L) values)) (countOf times values L)
 
 -- ---- demand 2

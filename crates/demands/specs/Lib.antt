@@ -1,6 +1,8 @@
 -- The conditions of purchase: Demands has every sentence as a statement. Answers, Runs and Marks are the words in which it
--- speaks: how questions are answered, what an accepted run is, and when an expectation is met.
+-- speaks: how questions are answered, what an accepted run is, and when an expectation is met. Spans says until when a level
+-- holds, which request P1 asks for.
 pub mod Answers
 pub mod Runs
 pub mod Marks
 pub mod Demands
+pub mod Spans

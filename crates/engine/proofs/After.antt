@@ -6,7 +6,7 @@ use mathlib.Core.Logic.{_≢_}
 use mathlib.Core.Bool.{Bool, true}
 use mathlib.Core.List.{List, map}
 use native.Mathlib.Omega.{arith}
-use lib.ListN.{length}
+use lib.ListN.{length, getD}
 use Rattle.lists.specs.Ladder.{firstNo, accepted}
 use Rattle.lists.specs.Outcome.{leftBy}
 use Rattle.lists.proofs.Ladders.{unless-none}
@@ -16,11 +16,12 @@ use Rattle.method.specs.Times.{among, startAndRise}
 use Rattle.method.specs.Frames.{frames, framesAt}
 use Rattle.method.specs.Traces.{traceAt}
 use Rattle.method.specs.Machine.{machine}
-use Rattle.method.specs.Look.{level, changes}
+use Rattle.method.specs.Look.{changes}
 use Rattle.method.specs.Words.{lanes, lane}
 use Rattle.method.specs.Packed.{laneOf, packedValues}
 use Rattle.method.specs.Agreement.{levelAt, changedTimes}
 use Rattle.method.specs.Lanes.{laneLevel, laneCount, AgreeIn}
+use Rattle.method.proofs.Rising.{Starts, test-starts}
 use Rattle.method.proofs.Netwise.{net-by-net}
 use Rattle.method.proofs.Agreement.{agreement}
 use Rattle.method.proofs.Lanes.{in-lanes}
@@ -36,9 +37,11 @@ use Rattle.method.specs.Values.{netCount}
 use Rattle.planner.specs.Plan.{planOf}
 use Rattle.engine.specs.Questions.{valuesLength, wordsSuit}
 use Rattle.engine.specs.Run.{runLeft, runOf}
-use Rattle.looks.specs.Look.{lookQuestions, levelOf, countOf}
-use Rattle.engine.specs.After.{LeftByRun, NetParts, After, Alike, AfterRun, timesOf, valuesOf, levelIn, countIn, lastTime}
+use Rattle.looks.specs.Sight.{sight, sightAt}
+use Rattle.looks.specs.Look.{lookQuestions, levelOf, levelPart, countOf}
+use Rattle.engine.specs.After.{LeftByRun, SightHolds, NetParts, After, Alike, AfterRun, timesOf, valuesOf, sightIn, levelIn, frameIn, countIn, lastTime}
 use Rattle.looks.proofs.Seeing.{all-yes}
+use Rattle.looks.proofs.Holding.{own-sight, holds}
 use Rattle.engine.proofs.Answering.{plan-first}
 use Rattle.engine.proofs.Accepted.{Held, held, filled-plan}
 use Rattle.method.proofs.Parts.{nets-count, word-each, words-part}
@@ -50,9 +53,9 @@ module _ (times values : List ℕ) (L : ℕ) (same : length times ≡ length val
   no-fault : firstNo (lookQuestions times values L) ≡ 0
   no-fault = sym (all-yes times values L same (λ z. omega arith) few (sym rise) refl (omega arith))
 
-  level-answered : (t : ℕ) → levelOf times values L t ≡ accepted (level times (map (lane L) values) t)
+  sight-answered : (t : ℕ) → levelOf times values L t ≡ accepted (sight times (map (lane L) values) t)
   unfolding levelOf
-  level-answered t = unless-none _ _ no-fault
+  sight-answered t = unless-none _ _ no-fault
 
   count-answered : countOf times values L ≡ accepted (changes (map (lane L) values))
   unfolding countOf
@@ -89,10 +92,32 @@ module _ (file before after : List ℕ) {a : Areas} (b : Held file before after 
   net-parts = record { some-frame = rw count-is frames-some; few-frames = rw count-is frames-few; inside = inside }
 
   module _ (L : ℕ) (l : L < lanes) where
-    level-lane : (t : ℕ) → levelIn a n L t ≡ accepted (laneLevel L c before after n t)
-    level-lane t =
+    -- the lane's bits of the net's words
+    abbrev bits : List Bool
+    bits = map (lane L) (packedValues c before after n)
+
+    sight-lane : (t : ℕ) → sightIn a n L t ≡ accepted (sight (framesAt c n .times) bits t)
+    sight-lane t =
         rw (times-are, values-are)
-        (level-answered (framesAt c n .times) (packedValues c before after n) L (sym (word-each c before after n)) frames-some frames-few (agreement .times-rise c n) l t)
+        (sight-answered (framesAt c n .times) (packedValues c before after n) L (sym (word-each c before after n)) frames-some frames-few (agreement .times-rise c n) l t)
+
+    level-lane : (t : ℕ) → levelIn a n L t ≡ accepted (laneLevel L c before after n t)
+    unfolding sight sightAt
+    level-lane t = ap levelPart (sight-lane t)
+
+    starts : Starts (framesAt c n .times)
+    starts = test-starts (framesAt c n .times) (agreement .times-rise c n)
+
+    sight-holds : (t : ℕ) → SightHolds c before after a n L t
+    sight-holds t =
+        record {
+          seen = sight (framesAt c n .times) bits t;
+          answers = sight-lane t;
+          holds = holds (framesAt c n .times) starts bits (machine c (laneOf L before after) n) (in-lanes .level-is-machine c before after L l n) t;
+        }
+
+    frame-is : (k : ℕ) → k < frameCount (a .plan .directory) n → sightIn a n L (getD (timesOf a n) k 0) ≡ accepted (frameIn a n L k)
+    frame-is k m = sight-lane (getD (timesOf a n) k 0) ∙ rw (times-are, values-are) (ap accepted (own-sight (framesAt c n .times) starts bits k (omega (arith, m, count-is))))
 
     count-lane : countIn a n L ≡ accepted (laneCount L c before after n)
     count-lane =
@@ -128,6 +153,8 @@ after-run file before after a r =
       values-are = values-are file before after b;
       count-is-own = λ n L h l. count-own file before after b n h L l;
       level-is-machine = λ n L t h l. level-is file before after b n h L l t;
+      sight-holds = λ n L t h l. sight-holds file before after b n h L l t;
+      frame-is-level = λ n L k h l m. frame-is file before after b n h L l k m;
       count-is-machine = λ n L h l. changes-are file before after b n h L l;
       changes-at-times = λ n L t h l d. only-at file before after b n h L l t d;
       times-are-potential = λ n t h. rw (times-are file before after b n h);

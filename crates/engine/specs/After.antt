@@ -4,8 +4,8 @@ use Prim.Native.Nat.{ℕ, suc, _+_, _<_, _≤_}
 use mathlib.Core.Path.{_≡_}
 use mathlib.Core.Logic.{_≢_}
 use mathlib.Core.Bool.{Bool, true}
-use mathlib.Core.List.{List}
-use lib.ListN.{length}
+use mathlib.Core.List.{List, map}
+use lib.ListN.{length, getD}
 use Rattle.lists.specs.Ladder.{Answer, accepted}
 use Rattle.lists.specs.Outcome.{outcome}
 use Rattle.method.specs.Circuit.{Circuit}
@@ -14,7 +14,7 @@ use Rattle.method.specs.Frames.{framesAt}
 use Rattle.method.specs.Traces.{traceAt}
 use Rattle.method.specs.Look.{changes}
 use Rattle.method.specs.Machine.{machine}
-use Rattle.method.specs.Words.{lanes}
+use Rattle.method.specs.Words.{lanes, lane}
 use Rattle.method.specs.Packed.{laneOf, packedValues}
 use Rattle.method.specs.Agreement.{changedTimes, potential}
 use Rattle.method.specs.Lanes.{AgreeIn}
@@ -27,7 +27,9 @@ use Rattle.method.specs.Values.{netCount}
 use Rattle.planner.specs.Plan.{planOf}
 use Rattle.engine.specs.Questions.{valuesLength, wordsSuit}
 use Rattle.engine.specs.Run.{runOf}
-use Rattle.looks.specs.Look.{levelOf, countOf}
+use Rattle.looks.specs.Sight.{Sight, sightAt}
+use Rattle.looks.specs.Look.{levelOf, levelPart, countOf}
+use Rattle.looks.specs.Holds.{Holds}
 
 -- `left` is what an accepted Run of the file with these words leaves: it answered totals, and its areas held something
 pub record LeftByRun (file before after : List ℕ) (left : Areas) : Type 0 where
@@ -46,12 +48,27 @@ valuesOf a n = partOf (a .plan .directory) (a .values) n
 abbrev pub lastTime : ℕ
 lastTime = 65535
 
--- what Level answers of net n in lane L at time t, and Count of net n in lane L, from these parts
+-- what Level answers of net n in lane L at time t, from these parts; of that the level; and what Count answers of net n in
+-- lane L
+abbrev pub sightIn : Areas → ℕ → ℕ → ℕ → Answer Sight
+sightIn a n L t = levelOf (timesOf a n) (valuesOf a n) L t
+
 abbrev pub levelIn : Areas → ℕ → ℕ → ℕ → Answer Bool
-levelIn a n L t = levelOf (timesOf a n) (valuesOf a n) L t
+levelIn a n L t = levelPart (sightIn a n L t)
 
 abbrev pub countIn : Areas → ℕ → ℕ → Answer ℕ
 countIn a n L = countOf (timesOf a n) (valuesOf a n) L
+
+-- what is seen of frame k of net n in lane L, from these parts
+abbrev pub frameIn : Areas → ℕ → ℕ → ℕ → Sight
+frameIn a n L k = sightAt (timesOf a n) (map (lane L) (valuesOf a n)) k
+
+-- Level answers, and what it answers holds: the frame that it names holds time t, begins and ends at potential times of the net
+-- with none between, and from its begin until before its end, or for ever, the machine's level is the one answered
+pub record SightHolds (c : Circuit) (before after : List ℕ) (a : Areas) (n L t : ℕ) : Type 0 where
+  pub seen : Sight
+  pub answers : sightIn a n L t ≡ accepted seen
+  pub holds : Holds (potential c n) (machine c (laneOf L before after) n) t seen
 
 -- net n's pair (o, c) in the directory: c is from 1 to 64, and o + c at most 2,048
 pub record NetParts (a : Areas) (n : ℕ) : Type 0 where
@@ -69,6 +86,11 @@ pub record After (file before after : List ℕ) (a : Areas) : Type 0 where
   -- every time t, so at those from 0 to 65,535
   pub level-is-machine : (n L t : ℕ) → n < netCount (circuitOf file) → L < lanes
       → levelIn a n L t ≡ accepted (machine (circuitOf file) (laneOf L before after) n t)
+  -- and holds from the begin of the frame that Level names to its end
+  pub sight-holds : (n L t : ℕ) → n < netCount (circuitOf file) → L < lanes → SightHolds (circuitOf file) before after a n L t
+  -- what is seen of a frame by its number is what Level answers at the frame's own time
+  pub frame-is-level : (n L k : ℕ) → n < netCount (circuitOf file) → L < lanes → k < frameCount (a .plan .directory) n
+      → sightIn a n L (getD (timesOf a n) k 0) ≡ accepted (frameIn a n L k)
   -- Count answers the number of changes of the lane's own values, which is the number of times from 1 to 65,535 at which
   -- the machine's level differs from that one unit earlier
   pub count-is-own : (n L : ℕ) → n < netCount (circuitOf file) → L < lanes → countIn a n L ≡ accepted (changes (traceAt (circuitOf file) (laneOf L before after) n .values))

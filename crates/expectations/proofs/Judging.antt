@@ -5,20 +5,23 @@ use Prim.Native.Nat.{ℕ, _+_, _≤_, _<_, max}
 use mathlib.Core.Path.{_≡_, sym, ap, ap₂, _∙_}
 use mathlib.Core.Logic.{inl, inr}
 use mathlib.Core.Bool.{Bool, true, false, cond, _&&_, Bool·beq, and-true, and-false}
-use mathlib.Core.List.{List, [], _∷_}
+use mathlib.Core.List.{List, [], _∷_, map}
 use native.Mathlib.Omega.{arith}
 use native.Mathlib.Numerals.{add-one}
 use lib.Dec.{ltb, leb, eqb}
-use lib.ListN.{getD}
 use borrow.Author.Tests.{ltb-true, leb-true, lt-ltb, le-ltb, le-leb, lt-leb}
 use Rattle.lists.specs.Every.{Every}
 use Rattle.lists.proofs.Each.{every-true}
 use Rattle.lists.proofs.Choices.{order, and-left, and-right}
 use Rattle.method.specs.Words.{lanes, lane}
-use Rattle.method.specs.Layout.{firstFrame, frameCount}
+use Rattle.method.specs.Layout.{partOf}
+use Rattle.method.specs.declared.Time.{Time}
+use Rattle.looks.specs.declared.Until.the-variants as U
+use Rattle.looks.specs.declared.Sight as code
+use Rattle.looks.specs.Sight.{sightAt, endOnPaper, sightOnPaper}
 use Rattle.expectations.specs.declared.Expectation.{Expectation}
 use Rattle.expectations.specs.Suits.{suits, listSuits}
-use Rattle.expectations.specs.Steps.{noCircuit, netsFor, netsNeeded, breaksAt}
+use Rattle.expectations.specs.Steps.{noCircuit, netsFor, netsNeeded, brokenBy, breaksAt}
 
 -- ---- how many nets a circuit must have for an expectation
 
@@ -88,26 +91,31 @@ each-suits nets list y = every-true (suits nets) list y
 
 -- ---- a frame breaks an expectation
 
-module _ (d t v : List ℕ) (e : Expectation) (k : ℕ) {first : ℕ} (a : first ≡ firstFrame d (e .net .0))
-    {word : ℕ} (w : word ≡ getD v (first + k) 0) {level : Bool} (l : level ≡ lane (e .lane) word) where
-  -- its level is the expected one
-  pub breaks-not : Bool·beq level (eqb (e .level) 1) ≡ true → false ≡ breaksAt d t v e k
+-- where this is seen of frame k of its net
+module _ (d t v : List ℕ) (e : Expectation) (k : ℕ) {ts vs : List ℕ} (p : ts ≡ partOf d t (e .net .0)) (q : vs ≡ partOf d v (e .net .0))
+    (seen : code.Sight) (s : sightOnPaper seen ≡ sightAt ts (map (lane (e .lane)) vs) k) where
+  by-sight : brokenBy e (sightOnPaper seen) ≡ breaksAt d t v e k
   unfolding breaksAt
-  breaks-not y = rw (← a, ← w, ← l, y)
+  by-sight = rw (← p, ← q, s)
 
-  module _ (n : Bool·beq level (eqb (e .level) 1) ≡ false) {time : ℕ} (s : time ≡ getD t (first + k) 0) where
+  -- its level is the expected one
+  pub breaks-not : Bool·beq (seen .level) (eqb (e .level) 1) ≡ true → false ≡ breaksAt d t v e k
+  unfolding brokenBy sightOnPaper
+  breaks-not y = rw (← by-sight, y)
+
+  module _ (n : Bool·beq (seen .level) (eqb (e .level) 1) ≡ false) where
     -- it begins after the span
-    pub breaks-late : e .to .0 < time → false ≡ breaksAt d t v e k
-    unfolding breaksAt
-    breaks-late h = rw (← a, ← w, ← l, n, ← s, lt-leb time (e .to .0) h)
+    pub breaks-late : e .to .0 < seen .began .0 → false ≡ breaksAt d t v e k
+    unfolding brokenBy sightOnPaper
+    breaks-late h = rw (← by-sight, n, lt-leb (seen .began .0) (e .to .0) h)
 
-    module _ (h : time ≤ e .to .0) {count : ℕ} (c : count ≡ frameCount d (e .net .0)) where
-      -- it is the last
-      pub breaks-last : count ≤ k + 1 → leb count (k + 1) ≡ breaksAt d t v e k
-      unfolding breaksAt
-      breaks-last m = rw (← a, ← w, ← l, n, ← s, le-leb time (e .to .0) h, ← c, le-leb count (k + 1) m)
-
+    module _ (h : seen .began .0 ≤ e .to .0) where
       -- the next begins after the span's start, or not
-      pub breaks-next : k + 1 < count → {next : ℕ} → next ≡ getD t (first + k + 1) 0 → ltb (e .from .0) next ≡ breaksAt d t v e k
-      unfolding breaksAt
-      breaks-next m u = rw (← a, ← w, ← l, n, ← s, le-leb time (e .to .0) h, ← c, lt-leb count (k + 1) m, ← u)
+      pub breaks-next : {next : Time} → seen .until ≡ U.Next next → ltb (e .from .0) (next .0) ≡ breaksAt d t v e k
+      unfolding brokenBy sightOnPaper endOnPaper
+      breaks-next u = rw (← by-sight, n, le-leb (seen .began .0) (e .to .0) h, u)
+
+      -- it has no end
+      pub breaks-never : seen .until ≡ U.NoEnd → true ≡ breaksAt d t v e k
+      unfolding brokenBy sightOnPaper endOnPaper
+      breaks-never u = rw (← by-sight, n, le-leb (seen .began .0) (e .to .0) h, u)

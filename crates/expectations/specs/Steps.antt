@@ -1,11 +1,11 @@
 -- What the functions of this crate promise. A reader of Mark's promise may skip this file.
 use Prim.Native.Nat.{ℕ, zero, suc, _+_, max}
-use mathlib.Core.Bool.{Bool, not, cond, _&&_, _||_, Bool·beq}
-use mathlib.Core.List.{List, [], _∷_}
-use lib.ListN.{getD}
+use mathlib.Core.Bool.{Bool, true, not, cond, _&&_, Bool·beq}
+use mathlib.Core.List.{List, [], _∷_, map}
 use lib.Dec.{ltb, leb}
 use Rattle.method.specs.Words.{lanes, lane}
-use Rattle.method.specs.Layout.{firstFrame, frameCount}
+use Rattle.method.specs.Layout.{frameCount, partOf}
+use Rattle.looks.specs.Sight.{End, at, never, Sight, sightAt}
 use Rattle.expectations.specs.declared.Expectation.{Expectation}
 use Rattle.expectations.specs.Verdict.{Verdict, allMet, place, expected}
 
@@ -25,13 +25,19 @@ netsNeeded (e ∷ list) = max (netsFor e) (netsNeeded list)
 
 -- ---- the search, in areas with these contents
 
+-- a frame ends after a time, or not at all
+abbrev pub endsAfter : ℕ → End → Bool
+endsAfter from (at next) = ltb from next
+endsAfter from never = true
+
+-- an expectation is broken by a frame of which this is seen
+unfoldable pub brokenBy : Expectation → Sight → Bool
+brokenBy e s = not (Bool·beq (s .level) (expected e)) && (leb (s .began) (e .to .0) && endsAfter (e .from .0) (s .end))
+
 module _ (d t v : List ℕ) where
-  -- frame k of an expectation's net breaks it
+  -- frame k of an expectation's net does, by the net's parts of the areas
   unfoldable pub breaksAt : Expectation → ℕ → Bool
-  breaksAt e k =
-      let at : ℕ = firstFrame d (e .net .0) + k in
-      not (Bool·beq (lane (e .lane) (getD v at 0)) (expected e))
-      && (leb (getD t at 0) (e .to .0) && (leb (frameCount d (e .net .0)) (k + 1) || ltb (e .from .0) (getD t (at + 1) 0)))
+  breaksAt e k = brokenBy e (sightAt (partOf d t (e .net .0)) (map (lane (e .lane)) (partOf d v (e .net .0))) k)
 
   -- the first of n frames, from frame k on, that does; else what the list behind gives
   unfoldable pub searchedFrames : Expectation → ℕ → ℕ → ℕ → Verdict → Verdict

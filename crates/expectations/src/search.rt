@@ -6,9 +6,9 @@ ghost use Rattle.expectations.specs.Verdict.{onPaper};
 ghost use Rattle.expectations.specs.Steps.{breaksAt, searched};
 use crate::Expectation;
 use crate::Marking;
+use looks::Until;
 use method::Frame;
 use slices::entry_at;
-use slices::word_at;
 
 // How many frames the net of an expectation has.
 fn frame_count<'a>(e: Expectation, directory: &'a [u16]) -> u16
@@ -17,8 +17,8 @@ fn frame_count<'a>(e: Expectation, directory: &'a [u16]) -> u16
     entry_at(directory, 2 * (e.net.0 as usize) + 1)
 }
 
-// Whether a frame of its net breaks an expectation: its level is another, and it lasts over some time of the span, that
-// is, it begins by the span's end, and is the last or ends after the span's start.
+// Whether a frame of its net breaks an expectation, by what is seen of it: its level is another, and it lasts over some time of
+// the span, that is, it begins by the span's end, and ends after the span's start or not at all.
 fn breaks<'a>(
     e: Expectation,
     directory: &'a [u16],
@@ -28,16 +28,20 @@ fn breaks<'a>(
 ) -> bool
     ensures { λ r. ⌜ r ≡ breaksAt (now (directory .entry)) (now (times .entry)) (now (values .entry)) e (frame .0) ⌝ }
 {
-    let k = frame.0 as usize;
-    let at = entry_at(directory, 2 * (e.net.0 as usize)) as usize + k;
-    let level = words::bit_of(word_at(values, at), e.lane);
-    if level == (e.level == 1) {
+    let t = looks::times_of(directory, times, e.net);
+    let v = looks::values_of(directory, values, e.net);
+    let seen = looks::sight_at(t, v, e.lane, frame);
+    if seen.level == (e.level == 1) {
         return false;
     }
-    if e.to.0 < entry_at(times, at) {
+    if e.to.0 < seen.began.0 {
         return false;
     }
-    frame_count(e, directory) as usize <= k + 1 || e.from.0 < entry_at(times, at + 1)
+    let until = seen.until;
+    match until {
+        Until::Next(next) => e.from.0 < next.0,
+        Until::NoEnd => true,
+    }
 }
 
 // The first expectation that some frame breaks, with the first frame that does. Proved by hand, as the list is lent.

@@ -7,9 +7,9 @@ use mathlib.Core.Bool.{Bool, true, false, not}
 use mathlib.Core.List.{List, [], _∷_, map}
 use native.Mathlib.Omega.{arith}
 use lib.Dec.{eqb, ltb}
-use lib.ListN.{length, getD, drop}
+use lib.ListN.{length, drop}
 use borrow.Author.Tests.{eqb-true, eq-eqb, ne-eqb, le-ltb, lt-ltb, le-leb, lt-leb, not-true, not-false}
-use Rattle.lists.specs.Ladder.{_orElse_, firstNo}
+use Rattle.lists.specs.Ladder.{_orElse_, firstNo, accepted}
 use Rattle.lists.specs.Front.{leading}
 use Rattle.lists.proofs.Choices.{and-left, and-right, between-low, between-yes, between-most-true}
 use Rattle.lists.proofs.Ladders.{numbered, asked, ask-yes, ask-no, all-asked, unless-none, unless-some}
@@ -19,10 +19,11 @@ use Rattle.method.specs.Look.{changes}
 use Rattle.method.specs.Words.{lanes, lane}
 use Rattle.method.proofs.Rising.{test-starts}
 use Rattle.method.proofs.Lasting.{last-leading, last-within}
-use Rattle.method.proofs.Bits.{getD-lane}
 use Rattle.method.specs.Limits.{mostNetFrames}
 use Rattle.looks.specs.declared.Seen.the-variants as S
 use Rattle.looks.specs.declared.Counted.the-variants as C
+use Rattle.looks.specs.declared.Sight as code
+use Rattle.looks.specs.Sight.{sightAt, sight, sightOnPaper}
 use Rattle.looks.specs.Look.{partsSuit, lookQuestions, levelOf, countOf, seenOnPaper, countedOnPaper}
 
 -- ---- the questions
@@ -104,15 +105,11 @@ module _ (times values : List ℕ) (L : ℕ) {r : ℕ} (f : r ≡ firstNo (lookQ
     unfolding countOf countedOnPaper
     count-yes {n} e = rw (← f, ← e) (sym (unless-none r n z))
 
-    module _ (t : ℕ) {frame : ℕ} (e : frame ≡ lastFrame times t) where
-      pub within : frame < length values
-      within = omega (arith, e, last-within times t (test-starts times (answered z .rises)), answered z .same)
-
-      pub level-yes : {b : Bool} → b ≡ lane L (getD values frame 0) → seenOnPaper (S.Level b) ≡ levelOf times values L t
-      unfolding levelOf seenOnPaper
-      level-yes {b} q =
-          let seen : b ≡ getD (map (lane L) values) (lastFrame times t) false = q ∙ getD-lane L values frame ∙ ap (λ (k : ℕ). getD (map (lane L) values) k false) e in
-          rw (← f, ← seen) (sym (unless-none r b z))
+    -- where the frame is the last one not later than t
+    pub level-yes : (t : ℕ) {frame : ℕ} → frame ≡ lastFrame times t → (s : code.Sight) → sightOnPaper s ≡ sightAt times (map (lane L) values) frame
+        → seenOnPaper (S.Level s) ≡ levelOf times values L t
+    unfolding levelOf sight seenOnPaper
+    level-yes t e s q = rw (← f) (ap accepted (q ∙ ap (sightAt times (map (lane L) values)) e) ∙ sym (unless-none r _ z))
 
 -- ---- the frame
 

@@ -3,15 +3,33 @@ ghost use mathlib.Core.Path.{_≡_};
 ghost use Rattle.looks.specs.Look.{levelOf, countOf, seenOnPaper, countedOnPaper};
 
 mod looking;
+mod parts;
+mod sights;
 
 use looking::changes;
 use looking::last_frame;
 use looking::look_fault;
 use method::Time;
+pub use parts::times_of;
+pub use parts::values_of;
+pub use sights::sight_at;
 
-// What Level answers: the level, or the number of the first "no".
+// Until when a frame lasts: the time at which the next begins. The last frame has no end.
+pub enum Until {
+    Next(Time),
+    NoEnd,
+}
+
+// What is seen of a net in a lane at a frame: the level, when the frame began, and until when it lasts.
+pub struct Sight {
+    pub level: bool,
+    pub began: Time,
+    pub until: Until,
+}
+
+// What Level answers: the level with its frame's begin and end, or the number of the first "no".
 pub enum Seen {
-    Level(bool),
+    Level(Sight),
     Refused(u8),
 }
 
@@ -21,7 +39,8 @@ pub enum Counted {
     Refused(u8),
 }
 
-// The level of a lane at a time, from one net's parts of the times and the values: questions 14 to 16.
+// The level of a lane at a time, with begin and end of the frame that holds the time, from one net's parts of the times and
+// the values: questions 14 to 16.
 pub fn level(times: &[u16], values: &[u64], lane: u8, time: Time) -> Seen
     ensures { λ r. ⌜ seenOnPaper r ≡ levelOf (now (times .entry)) (now (values .entry)) lane (time .0) ⌝ }
 {
@@ -30,7 +49,7 @@ pub fn level(times: &[u16], values: &[u64], lane: u8, time: Time) -> Seen
         return Seen::Refused(fault);
     }
     let frame = last_frame(times, time);
-    Seen::Level(words::bit_of(values[frame.0 as usize], lane))
+    Seen::Level(sight_at(times, values, lane, frame))
 }
 
 // How often a lane changes, from one net's parts of the times and the values: questions 14 to 16.

@@ -3,77 +3,57 @@
 -- Assumes nothing.
 use Prim.Native.Nat.{ℕ, zero, suc, _+_, _≤_, _<_}
 use mathlib.Core.Path.{_≡_, refl, sym, ap, _∙_}
-use mathlib.Core.Logic.{inl, inr}
-use mathlib.Core.Bool.{Bool, true, false, cond, and-true}
+use mathlib.Core.Bool.{Bool, true, false, not, cond, _&&_, Bool·beq, and-true}
 use mathlib.Core.List.{List, [], _∷_, map}
 use native.Mathlib.Omega.{arith}
 use lib.Dec.{leb}
 use lib.ListN.{length, getD, drop, drop-of-length-le}
 use lib.Seq.{drop-cons}
-use borrow.Author.Tests.{le-leb, lt-leb}
 use Rattle.lists.specs.Tables.{every}
-use Rattle.lists.proofs.Choices.{order, and-left, and-right}
+use Rattle.lists.proofs.Choices.{and-left, and-right}
 use Rattle.method.specs.Circuit.{Circuit}
 use Rattle.method.specs.Frames.{framesAt}
 use Rattle.method.specs.Words.{lane}
 use Rattle.method.specs.Packed.{laneOf}
-use Rattle.method.proofs.Bits.{getD-lane}
 use Rattle.method.proofs.Tracing.{value-each}
 use Rattle.method.proofs.Lanes.{in-lanes}
 use Rattle.circuit.specs.File.{circuitOf}
-use Rattle.method.specs.Layout.{firstFrame, frameCount, partOf}
-use Rattle.method.proofs.Laying.{part-entry}
+use Rattle.method.specs.Layout.{frameCount, partOf}
+use Rattle.looks.specs.Sight.{endBy, sightAt}
 use Rattle.engine.specs.Areas.{Areas}
 use Rattle.method.specs.Values.{netCount}
 use Rattle.engine.specs.After.{After}
 use Rattle.expectations.specs.declared.Expectation.{Expectation}
 use Rattle.expectations.specs.Suits.{suits, listSuits}
-use Rattle.expectations.specs.Verdict.{Verdict, place, breaks, firstBreak, verdictFrom, netTimes, laneLevels, verdict}
+use Rattle.expectations.specs.Verdict.{Verdict, place, lastsOver, expected, breaks, firstBreak, verdictFrom, netTimes, laneLevels, verdict}
 use Rattle.expectations.proofs.Judging.{net-below, lane-below}
-use Rattle.expectations.specs.Steps.{breaksAt, searchedFrames, searchedFrom, searched}
+use Rattle.expectations.specs.Steps.{endsAfter, brokenBy, breaksAt, searchedFrames, searchedFrom, searched}
 
 -- ---- the frames of an expectation's net
+
+-- by what is seen of frame k, which lasts until the first of the later times: the definition asks the same
+seen-breaks : (e : Expectation) (times : List ℕ) (levels : List Bool) (k : ℕ) → brokenBy e (sightAt times levels k) ≡ breaks e (getD times k 0) (drop (suc k) times) (getD levels k false)
+unfolding brokenBy breaks sightAt endBy
+seen-breaks e times levels k = ap (_&&_ (not (Bool·beq (getD levels k false) (expected e)))) (lasts (drop (suc k) times))
+  where
+    lasts : (later : List ℕ) → leb (getD times k 0) (e .to .0) && endsAfter (e .from .0) (endBy later) ≡ lastsOver (e .from .0) (e .to .0) (getD times k 0) later
+    lasts [] = and-true (leb (getD times k 0) (e .to .0))
+    lasts (next ∷ later) = refl
 
 -- where the net's parts of the areas are these times and, in the expectation's lane, these levels
 module _ (d t v : List ℕ) (e : Expectation) (times : List ℕ) (levels : List Bool)
     (ts : partOf d t (e .net .0) ≡ times) (vs : map (lane (e .lane)) (partOf d v (e .net .0)) ≡ levels)
     (tc : length times ≡ frameCount d (e .net .0)) (vc : length levels ≡ frameCount d (e .net .0)) where
-  abbrev first : ℕ
-  first = firstFrame d (e .net .0)
-
-  abbrev count : ℕ
-  count = frameCount d (e .net .0)
-
-  time-at : (k : ℕ) → k < count → getD t (first + k) 0 ≡ getD times k 0
-  time-at k h = part-entry d t (e .net .0) k h ∙ ap (λ (l : List ℕ). getD l k 0) ts
-
-  level-at : (k : ℕ) → k < count → lane (e .lane) (getD v (first + k) 0) ≡ getD levels k false
-  level-at k h =
-      ap (lane (e .lane)) (part-entry d v (e .net .0) k h)
-      ∙ getD-lane (e .lane) (partOf d v (e .net .0)) k
-      ∙ ap (λ (l : List Bool). getD l k false) vs
-
-  -- the last frame has none behind it, another has the next one's time there
-  breaks-is : (k : ℕ) → k < count → breaksAt d t v e k ≡ breaks e (getD times k 0) (drop (suc k) times) (getD levels k false)
-  unfolding breaksAt breaks
-  breaks-is k h =
-      rw (level-at k h, time-at k h)
-      (elim (order count (k + 1)) [
-        | inl l ↦ rw (le-leb count (k + 1) l, drop-of-length-le times (let q : length times ≤ suc k = omega arith in q), and-true (leb (getD times k 0) (e .to .0)))
-        | inr l ↦ rw (
-          lt-leb count (k + 1) l,
-          let q : first + k + 1 ≡ first + suc k = omega arith in q,
-          time-at (suc k) (omega arith),
-          drop-cons times (suc k) 0 (omega arith),
-        )
-      ])
+  breaks-is : (k : ℕ) → breaksAt d t v e k ≡ breaks e (getD times k 0) (drop (suc k) times) (getD levels k false)
+  unfolding breaksAt
+  breaks-is k = rw (ts, vs) (seen-breaks e times levels k)
 
   -- with n frames left, from frame k on
-  frames-are : (i n k : ℕ) → k + n ≡ count → (behind : Verdict) → searchedFrames d t v e i n k behind ≡ firstBreak e i k (drop k times) (drop k levels) behind
+  frames-are : (i n k : ℕ) → k + n ≡ frameCount d (e .net .0) → (behind : Verdict) → searchedFrames d t v e i n k behind ≡ firstBreak e i k (drop k times) (drop k levels) behind
   unfolding searchedFrames firstBreak
   frames-are i zero k s behind = rw (drop-of-length-le times (let q : length times ≤ k = omega arith in q))
   frames-are i (suc n) k s behind =
-      rw (drop-cons times k 0 (omega arith), drop-cons levels k false (omega arith), breaks-is k (omega arith))
+      rw (drop-cons times k 0 (omega arith), drop-cons levels k false (omega arith), breaks-is k)
       (ap (cond (breaks e (getD times k 0) (drop (suc k) times) (getD levels k false)) (place i k)) (frames-are i n (suc k) (omega arith) behind))
 
 -- ---- the list

@@ -7,7 +7,7 @@ use native.Mathlib.Omega.{arith}
 use native.Mathlib.Nat.{add-zero, zero-add}
 use native.Mathlib.Numerals.{add-one}
 use lib.ListN.{length, getD, take, drop, set, replicate, length-append, length-drop}
-use lib.Seq.{sets, take-suc, take-take, getD-take, getD-drop, length-take-le}
+use lib.Seq.{sets, take-suc, take-take, getD-take, length-take-le}
 use Rattle.lists.specs.Tables.{tabulateFrom}
 use Rattle.lists.specs.Areas.{padded}
 use Rattle.lists.proofs.Tabled.{from-length, tabulate-snoc}
@@ -55,11 +55,6 @@ unfolding partOf
 part-read d t n {first} {end} p q =
     let m : end - first ≡ getD d (2 * n + 1) 0 = omega arith in
     rw (m, p)
-
--- entry k of net n's part of an area
-pub part-entry : (d area : List ℕ) (n k : ℕ) → k < frameCount d n → getD area (firstFrame d n + k) 0 ≡ getD (partOf d area n) k 0
-unfolding partOf
-part-entry d area n k h = sym (getD-take (frameCount d n) (drop (firstFrame d n) area) k 0 h ∙ getD-drop (firstFrame d n) area k 0)
 
 pairs-first : (at : ℕ) (fs : List Frames) (z : List ℕ) (n : ℕ) → n < length fs → getD (pairs at fs ++ z) (2 * n) 0 ≡ at + length (allTimes (take n fs))
 unfolding pairs flatMap

@@ -15,40 +15,40 @@ use Rattle.method.specs.Frames.{framesAt}
 use Rattle.method.specs.Traces.{traceAt}
 use Rattle.method.specs.Words.{lane}
 use Rattle.method.specs.Packed.{laneOf}
-use Rattle.method.proofs.Bits.{getD-lane}
 use Rattle.method.proofs.Tracing.{value-each}
 use Rattle.method.proofs.Lanes.{in-lanes}
 use Rattle.circuit.specs.File.{circuitOf}
-use Rattle.method.specs.Layout.{firstFrame, frameCount, partOf}
-use Rattle.method.proofs.Laying.{part-entry}
+use Rattle.method.specs.Layout.{frameCount, partOf}
+use Rattle.looks.specs.declared.Sight as code
+use Rattle.looks.specs.Sight.{sightAt, sightOnPaper}
 use Rattle.engine.specs.Areas.{Areas}
 use Rattle.method.specs.Values.{netCount}
 use Rattle.engine.specs.After.{After}
 use Rattle.text.specs.Text.{newline, decimal, frameText}
 use Rattle.waveform.specs.Lines.{line, netLine, lines}
 use Rattle.text.specs.Wrote.{Wrote}
-use Rattle.waveform.specs.Steps.{areaFrame, areaFrames, areaLine, areaLines}
+use Rattle.waveform.specs.Steps.{seenText, partFrames, areaLine, areaLines}
 use Rattle.text.proofs.Putting.{wrote-nothing, wrote-both, wrote-next}
 
 -- ---- written
 
-module _ (times values : List ℕ) (first : ℕ) where
-  pub frames-none : (out : List ℕ) (at : ℕ) → Wrote out at (areaFrames times values first 0) out at
-  unfolding areaFrames flatten tabulateFrom
+module _ (times values : List ℕ) where
+  pub frames-none : (out : List ℕ) (at : ℕ) → Wrote out at (partFrames times values 0) out at
+  unfolding partFrames flatten tabulateFrom
   frames-none out at = wrote-nothing out at
 
   -- one frame more
-  pub frames-more : {a b c : List ℕ} {i j k : ℕ} (n : ℕ) → Wrote a i (areaFrames times values first n) b j → {place time word : ℕ} {level : Bool} → place ≡ first + n → time ≡ getD times place 0 → word ≡ getD values place 0
-      → level ≡ lane 0 word → Wrote b j (frameText time level) c k → Wrote a i (areaFrames times values first (n + 1)) c k
-  unfolding areaFrames
-  frames-more {a} {b} {c} {i} {j} {k} n done {place} {time} {word} {level} p t w l piece =
-      wrote-next (λ (m : ℕ). areaFrame times values (first + m)) n done (rw (← p, ← t, ← w, ← l) piece)
+  pub frames-more : {a b c : List ℕ} {i j k : ℕ} (n : ℕ) → Wrote a i (partFrames times values n) b j → (seen : code.Sight) → sightOnPaper seen ≡ sightAt times (map (lane 0) values) n
+      → Wrote b j (frameText (seen .began .0) (seen .level)) c k → Wrote a i (partFrames times values (n + 1)) c k
+  unfolding partFrames sightOnPaper
+  frames-more {a} {b} {c} {i} {j} {k} n done seen s piece =
+      wrote-next (λ (m : ℕ). seenText (sightAt times (map (lane 0) values) m)) n done (rw (← s) piece)
 
 module _ (d t v : List ℕ) where
-  pub line-put : {o a b c : List ℕ} {at i j k : ℕ} (net : ℕ) {first frames : ℕ} → first ≡ firstFrame d net → frames ≡ frameCount d net → Wrote o at (decimal net) a i
-      → Wrote a i (areaFrames t v first frames) b j → Wrote b j (newline ∷ []) c k → Wrote o at (areaLine d t v net) c k
+  pub line-put : {o a b c : List ℕ} {at i j k : ℕ} (net : ℕ) {ts vs : List ℕ} {frames : ℕ} → frames ≡ frameCount d net → ts ≡ partOf d t net → vs ≡ partOf d v net → Wrote o at (decimal net) a i
+      → Wrote a i (partFrames ts vs frames) b j → Wrote b j (newline ∷ []) c k → Wrote o at (areaLine d t v net) c k
   unfolding areaLine
-  line-put net {first} {frames} p q x y z = rw (← p, ← q) (wrote-both x (wrote-both y z))
+  line-put net f p q x y z = rw (← f, ← p, ← q) (wrote-both x (wrote-both y z))
 
   pub lines-none : (out : List ℕ) (at : ℕ) → Wrote out at (areaLines d t v 0) out at
   unfolding areaLines flatten tabulateFrom
@@ -89,18 +89,11 @@ module _ (file before after : List ℕ) {a : Areas} (h : After file before after
     own : map (lane 0) (partOf d (a .values) n) ≡ levels
     own = ap (map (lane 0)) (h .values-are n l) ∙ in-lanes .own-values c before after 0 (omega arith) n
 
-    frame-is : (k : ℕ) → k < length times → areaFrame (a .plan .times) (a .values) (firstFrame d n + k) ≡ frameText (getD times k 0) (getD levels k false)
-    frame-is k m =
-        let few : k < frameCount d n = omega (arith, h .count-is n l, m) in
-        ap₂ frameText
-        (part-entry d (a .plan .times) n k few ∙ ap (λ (xs : List ℕ). getD xs k 0) (h .times-are n l))
-        (ap (lane 0) (part-entry d (a .values) n k few) ∙ getD-lane 0 (partOf d (a .values) n) k ∙ ap (λ (bs : List Bool). getD bs k false) own)
-
-    frames-are : areaFrames (a .plan .times) (a .values) (firstFrame d n) (frameCount d n) ≡ flatten (zipWith frameText times levels)
-    unfolding areaFrames
+    frames-are : partFrames (partOf d (a .plan .times) n) (partOf d (a .values) n) (frameCount d n) ≡ flatten (zipWith frameText times levels)
+    unfolding partFrames sightAt
     frames-are =
-        rw (h .count-is n l)
-        (ap flatten (zip-from frameText times levels (value-each c (laneOf 0 before after) n) 0 (λ (k : ℕ). areaFrame (a .plan .times) (a .values) (firstFrame d n + k)) (λ k m. rw (zero-add k) (frame-is k m))))
+        rw (h .count-is n l, h .times-are n l, own)
+        (ap flatten (zip-from frameText times levels (value-each c (laneOf 0 before after) n) 0 (λ (k : ℕ). seenText (sightAt times levels k)) (λ k m. rw (zero-add k) refl)))
 
     line-is : areaLine d (a .plan .times) (a .values) n ≡ netLine c before after n
     unfolding areaLine line

@@ -1,15 +1,16 @@
 -- What the crate's own functions promise each other. A reader of the wave program's promise may skip this file.
 use Prim.Native.Nat.{ℕ, _+_, _/_, _%_}
 use mathlib.Core.Bool.{cond, _&&_}
-use mathlib.Core.List.{List, [], _∷_, _++_, flatten}
-use lib.ListN.{length, getD}
+use mathlib.Core.List.{List, [], _∷_, _++_, flatten, map}
+use lib.ListN.{length}
 use lib.Dec.{leb, eqb}
 use Rattle.lists.specs.Ladder.{firstNo, Answer, accepted, refused}
 use Rattle.lists.specs.Tables.{tabulate}
 use Rattle.method.specs.Words.{lane}
 use Rattle.circuit.specs.File.{circuitOf}
 use Rattle.circuit.specs.Questions.{InputsAndGates}
-use Rattle.method.specs.Layout.{firstFrame, frameCount}
+use Rattle.method.specs.Layout.{frameCount, partOf}
+use Rattle.looks.specs.Sight.{Sight, sightAt}
 use Rattle.engine.specs.Areas.{Areas}
 use Rattle.engine.specs.Questions as engine
 use Rattle.text.specs.Text.{newline, decimal, refusal, frameText}
@@ -21,16 +22,17 @@ listLength n = cond (eqb (n % 16) 0 && leb n 512) (n / 16) 0
 
 -- ---- lines as they are read off the areas
 
-abbrev pub areaFrame : List ℕ → List ℕ → ℕ → List ℕ
-areaFrame times values place = frameText (getD times place 0) (lane 0 (getD values place 0))
+-- a frame of which this is seen
+abbrev pub seenText : Sight → List ℕ
+seenText s = frameText (s .began) (s .level)
 
--- n frames from place `first` on
-unfoldable pub areaFrames : List ℕ → List ℕ → ℕ → ℕ → List ℕ
-areaFrames times values first n = flatten (tabulate n (λ (k : ℕ). areaFrame times values (first + k)))
+-- n frames, in lane 0, of a net with these parts
+unfoldable pub partFrames : List ℕ → List ℕ → ℕ → List ℕ
+partFrames times values n = flatten (tabulate n (λ (k : ℕ). seenText (sightAt times (map (lane 0) values) k)))
 
 unfoldable pub areaLine : List ℕ → List ℕ → List ℕ → ℕ → List ℕ
 areaLine directory times values n =
-    decimal n ++ (areaFrames times values (firstFrame directory n) (frameCount directory n) ++ newline ∷ [])
+    decimal n ++ (partFrames (partOf directory times n) (partOf directory values n) (frameCount directory n) ++ newline ∷ [])
 
 -- the first n nets
 unfoldable pub areaLines : List ℕ → List ℕ → List ℕ → ℕ → List ℕ

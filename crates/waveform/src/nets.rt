@@ -5,35 +5,27 @@ ghost use Rattle.circuit.specs.Questions.{readOf};
 ghost use Rattle.engine.specs.Areas.{areas};
 ghost use Rattle.waveform.specs.Wave.{answerText};
 ghost use Rattle.text.specs.Wrote.{Wrote};
-ghost use Rattle.waveform.specs.Steps.{listLength, areaFrames, areaLine, areaLines, netsRead, runText};
+ghost use Rattle.waveform.specs.Steps.{listLength, partFrames, areaLine, areaLines, netsRead, runText};
 use crate::input::list_length;
 use crate::input::take_words;
 use circuit::Reading;
+use method::Frame;
 use method::Net;
-use method::Time;
 use planner::Planning;
 use text::put_frame;
 use text::put_newline;
 use text::put_number;
 use text::put_refused;
 
-// The frames of a net, which start at place `first` of the areas, in lane 0.
-fn put_frames(
-    output: &mut [u8],
-    at: usize,
-    times: &[u16],
-    values: &[u64],
-    first: u16,
-    frames: u16,
-) -> usize
-    ensures { λ r. ⌜ Wrote (now (output .entry)) at (areaFrames (now (times .entry)) (now (values .entry)) first frames) (now (output .exit)) r ⌝ }
+// So many frames of a net, in lane 0, from its parts of the times and the values.
+fn put_frames(output: &mut [u8], at: usize, times: &[u16], values: &[u64], frames: u16) -> usize
+    ensures { λ r. ⌜ Wrote (now (output .entry)) at (partFrames (now (times .entry)) (now (values .entry)) frames) (now (output .exit)) r ⌝ }
 {
     let mut end = at;
     let mut k: u16 = 0;
     while k < frames {
-        let place = first as usize + k as usize;
-        let level = words::bit_of(slices::word_at(values, place), 0);
-        end = put_frame(output, end, Time(slices::entry_at(times, place)), level);
+        let seen = looks::sight_at(times, values, 0, Frame(k));
+        end = put_frame(output, end, seen.began, seen.level);
         k += 1;
     }
     end
@@ -50,11 +42,11 @@ fn put_net(
 ) -> usize
     ensures { λ r. ⌜ Wrote (now (output .entry)) at (areaLine (now (directory .entry)) (now (times .entry)) (now (values .entry)) (net .0)) (now (output .exit)) r ⌝ }
 {
-    let pair = 2 * (net.0 as usize);
-    let first = slices::entry_at(directory, pair);
-    let frames = slices::entry_at(directory, pair + 1);
+    let frames = slices::entry_at(directory, 2 * (net.0 as usize) + 1);
+    let t = looks::times_of(directory, times, net);
+    let v = looks::values_of(directory, values, net);
     let a = put_number(output, at, net.0);
-    let b = put_frames(output, a, times, values, first, frames);
+    let b = put_frames(output, a, t, v, frames);
     put_newline(output, b)
 }
 
