@@ -17,7 +17,7 @@ use Rattle.method.specs.Indices.{lastFrame}
 use Rattle.method.specs.Look.{level}
 use Rattle.method.proofs.Rising.{Rise, Starts, starts-drop}
 use Rattle.method.proofs.Lasting.{last-within, last-is, last-reached, last-next}
-use Rattle.looks.specs.Sight.{End, endBy, sight, sightAt}
+use Rattle.looks.specs.Sight.{End, at, never, endBy, sight, sightAt}
 use Rattle.looks.specs.Holds.{Before, EndsAt, Holds}
 
 -- ---- the times of the frames
@@ -61,20 +61,13 @@ module _ (ts : List ℕ) (starts : Starts ts) where
     unfolding endBy
     before-next u b l = rw (drop-cons ts (suc k) 0 l) at b
 
-    next-before : (u : ℕ) → (suc k < length ts → u < getD ts (suc k) 0) → Before u end
+    -- what is so of "never" where frame k is the last, and else of the next frame's time, is so of its end
+    of-end : (P : End → Type 0) → P never → (suc k < length ts → P (at (getD ts (suc k) 0))) → P end
     unfolding endBy
-    next-before u f =
+    of-end P last next =
         elim (order (length ts) (suc k)) [
-          | inl l ↦ rw (drop-of-length-le ts l) tt
-          | inr l ↦ rw (drop-cons ts (suc k) 0 l) (f l)
-        ]
-
-    ends-among : EndsAt (λ (u : ℕ). among u ts) end
-    unfolding endBy
-    ends-among =
-        elim (order (length ts) (suc k)) [
-          | inl l ↦ rw (drop-of-length-le ts l) tt
-          | inr l ↦ rw (drop-cons ts (suc k) 0 l) (frame-among ts (suc k) l)
+          | inl l ↦ rw (drop-of-length-le ts l) last
+          | inr l ↦ rw (drop-cons ts (suc k) 0 l) (next l)
         ]
 
     -- from its begin until before its end it is the last one not later
@@ -99,9 +92,9 @@ module _ (ts : List ℕ) (starts : Starts ts) where
       let h : k < length ts = last-within ts t starts in
       record {
         begun = last-reached ts t starts;
-        lasts = next-before k h t (last-next ts t starts);
+        lasts = of-end k h (Before t) tt (last-next ts t starts);
         begins-potential = frame-among ts k h;
-        ends-potential = ends-among k h;
+        ends-potential = of-end k h (EndsAt (λ (u : ℕ). among u ts)) tt (frame-among ts (suc k));
         none-between = none-among k h;
         level-stays = λ u a b. sym (same u) ∙ ap (λ (j : ℕ). getD levels j false) (frame-stays k h u a b);
       }
