@@ -27,7 +27,6 @@ use Rattle.engine.specs.Questions as engine
 use Rattle.engine.specs.Run.{filled, runLeft, runOf}
 use Rattle.looks.specs.Sight.{sight}
 use Rattle.looks.specs.Look.{lookQuestions, levelOf, countOf}
-use Rattle.engine.specs.After.{Alike}
 use Rattle.engine.proofs.Answering.{all-numbered}
 use Rattle.looks.proofs.Seeing.{look-numbered}
 use Rattle.engine.proofs.Accepted.{held}
@@ -40,9 +39,9 @@ use Rattle.marking.specs.Mark.{markOf}
 use Rattle.marking.proofs.Laddered.{ladder-numbered, ladder-run}
 use Rattle.marking.proofs.Marked.{mark-ran}
 use Rattle.demands.specs.Answers.{SameRefusal}
-use Rattle.demands.specs.Demands.{Demand1, Demand2Method, Demand2Lengths, Demand2Patterns, Demand2Marking, Demand3Level, Demand3Changes, TwoRuns, Demand3Alike, Demands}
+use Rattle.demands.specs.Demands.{Demand1, Demand2Method, Demand2Lengths, Demand2Patterns, Demand2Marking, Demand3Level, Demand3Changes, Demand3Alike, Demands}
 use Rattle.demands.proofs.Deciding.{answered, leaves, same-refusal}
-use Rattle.demands.proofs.Holding.{engine-ran, past-run}
+use Rattle.demands.proofs.Holding.{engine-ran, past-run, two-alike}
 use Rattle.demands.proofs.Meeting.{passes, passes-machine, fails}
 use Rattle.demands.proofs.Alike.{marked-alike}
 
@@ -148,17 +147,11 @@ demand-3-changes =
       times = λ file before after left r. past-run file before after left r .times-are-potential;
     }
 
-module _ (L : ℕ) (file before after : List ℕ) (left : Areas) (file′ before′ after′ : List ℕ) (left′ : Areas) (two : TwoRuns L file before after left file′ before′ after′ left′) where
-  alike : Alike (circuitOf file) L left left′
-  alike =
-      after-runs .runs-alike file file′ before after before′ after′ left left′ L (two .lane) (engine-ran file before after (two .ran)) (engine-ran file′ before′ after′ (two .ran′))
-      (two .one-circuit) (two .before-agree) (two .after-agree)
-
 demand-3-alike : Demand3Alike
 demand-3-alike =
     record {
-      level = λ L file before after left file′ before′ after′ left′ two n t h u. alike L file before after left file′ before′ after′ left′ two .same-level n t h;
-      count = λ L file before after left file′ before′ after′ left′ two. alike L file before after left file′ before′ after′ left′ two .same-count;
+      level = λ L file before after left file′ before′ after′ left′ two n t h u. two-alike L file before after left file′ before′ after′ left′ two .same-level n t h;
+      count = λ L file before after left file′ before′ after′ left′ two. two-alike L file before after left file′ before′ after′ left′ two .same-count;
       marking = λ L file before after left file′ before′ after′ left′ two.
           marked-alike file before after file′ before′ after′ L (engine-ran file before after (two .ran)) (engine-ran file′ before′ after′ (two .ran′)) (two .one-circuit) (two .before-agree) (two .after-agree);
     }

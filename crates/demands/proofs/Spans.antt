@@ -11,7 +11,7 @@ use Rattle.method.specs.Words.{lane}
 use Rattle.looks.specs.Sight.{Sight, endBy, sightAt, sight}
 use Rattle.looks.specs.Look.{lookQuestions, levelOf}
 use Rattle.demands.specs.Spans.{Spans}
-use Rattle.demands.proofs.Holding.{past-run}
+use Rattle.demands.proofs.Holding.{past-run, two-alike}
 
 module _ (times values : List ℕ) (L t : ℕ) {s : Sight} (e : levelOf times values L t ≡ accepted s) where
   is-sight : sight times (map (lane L) values) t ≡ s
@@ -33,4 +33,5 @@ spans =
       by-number = λ file before after left r. past-run file before after left r .frame-is-level;
       by-times = λ times values values′ L L′ t s s′ e e′.
           (sym (began-is times values L t e) ∙ began-is times values′ L′ t e′, sym (end-is times values L t e) ∙ end-is times values′ L′ t e′);
+      alike = λ L file before after left file′ before′ after′ left′ two n t h u. two-alike L file before after left file′ before′ after′ left′ two .same-sight n t h;
     }

@@ -14,6 +14,7 @@ use Rattle.looks.specs.Look.{levelOf}
 use Rattle.engine.specs.Areas.{Areas}
 use Rattle.engine.specs.After.{SightHolds, timesOf, sightIn, frameIn, lastTime}
 use Rattle.demands.specs.Runs.{Ran}
+use Rattle.demands.specs.Demands.{TwoRuns}
 
 pub record Spans : Type 0 where
   -- whatever net, lane and time are asked for, Level answers: its frame holds the time, begins and ends at potential times of the
@@ -27,3 +28,7 @@ pub record Spans : Type 0 where
   -- no pattern bit enters begin or end, in whatever parts: they are the same for all values and in all lanes
   pub by-times : (times values values′ : List ℕ) (L L′ t : ℕ) (s s′ : Sight) → levelOf times values L t ≡ accepted s → levelOf times values′ L′ t ≡ accepted s′
       → (s .began ≡ s′ .began) × (s .end ≡ s′ .end)
+  -- two accepted runs of one circuit whose words agree in a lane have the same frames there too
+  pub alike : (L : ℕ) (file before after : List ℕ) (left : Areas) (file′ before′ after′ : List ℕ) (left′ : Areas)
+      → TwoRuns L file before after left file′ before′ after′ left′
+      → (n t : ℕ) → n < netCount (circuitOf file) → t ≤ lastTime → sightIn left n L t ≡ sightIn left′ n L t

@@ -24,7 +24,7 @@ use Rattle.method.specs.Lanes.{laneLevel, laneCount, AgreeIn}
 use Rattle.method.proofs.Rising.{Starts, test-starts}
 use Rattle.method.proofs.Netwise.{net-by-net}
 use Rattle.method.proofs.Agreement.{agreement}
-use Rattle.method.proofs.Lanes.{in-lanes}
+use Rattle.method.proofs.Lanes.{in-lanes, same-bits}
 use Rattle.circuit.specs.File.{inputsOf, circuitOf}
 use Rattle.circuit.proofs.Bounded.{time-small}
 use Rattle.method.specs.Limits.{mostNetFrames, mostTotalFrames}
@@ -162,22 +162,30 @@ after-run file before after a r =
 
 -- ---- two runs
 
+module _ (file file′ before after before′ after′ : List ℕ) {a a′ : Areas} (L : ℕ) (l : L < lanes) (b : Held file before after a) (b′ : Held file′ before′ after′ a′) (same : circuitOf file ≡ circuitOf file′)
+    (p : AgreeIn L (circuitOf file .inputs) before before′) (q : AgreeIn L (circuitOf file .inputs) after after′) (n : ℕ) (h : n < netCount (circuitOf file)) where
+  same-sight : (t : ℕ) → sightIn a n L t ≡ sightIn a′ n L t
+  same-sight t =
+      sight-lane file before after b n h L l t
+      ∙ ap (λ (levels : List Bool). accepted (sight (framesAt (circuitOf file) n .times) levels t)) (same-bits (circuitOf file) before after before′ after′ L p q n l)
+      ∙ ap (λ (c : Circuit). accepted (sight (framesAt c n .times) (map (lane L) (packedValues c before′ after′ n)) t)) same
+      ∙ sym (sight-lane file′ before′ after′ b′ n (rw same at h) L l t)
+
+  same-count : countIn a n L ≡ countIn a′ n L
+  same-count =
+      count-lane file before after b n h L l
+      ∙ ap accepted (in-lanes .same-count (circuitOf file) before after before′ after′ L l p q n)
+      ∙ ap (λ (c : Circuit). accepted (laneCount L c before′ after′ n)) same
+      ∙ sym (count-lane file′ before′ after′ b′ n (rw same at h) L l)
+
 runs-alike : (file file′ before after before′ after′ : List ℕ) (a a′ : Areas) (L : ℕ) → L < lanes → LeftByRun file before after a → LeftByRun file′ before′ after′ a′ → circuitOf file ≡ circuitOf file′
     → AgreeIn L (circuitOf file .inputs) before before′ → AgreeIn L (circuitOf file .inputs) after after′ → Alike (circuitOf file) L a a′
 runs-alike file file′ before after before′ after′ a a′ L l r r′ same p q =
-    let b = held file before after r in
-    let b′ = held file′ before′ after′ r′ in
+    let sights = same-sight file file′ before after before′ after′ L l (held file before after r) (held file′ before′ after′ r′) same p q in
     record {
-      same-level = λ n t h.
-          level-lane file before after b n h L l t
-          ∙ ap accepted (in-lanes .same-level (circuitOf file) before after before′ after′ L l p q n t)
-          ∙ ap (λ (c : Circuit). accepted (laneLevel L c before′ after′ n t)) same
-          ∙ sym (level-lane file′ before′ after′ b′ n (rw same at h) L l t);
-      same-count = λ n h.
-          count-lane file before after b n h L l
-          ∙ ap accepted (in-lanes .same-count (circuitOf file) before after before′ after′ L l p q n)
-          ∙ ap (λ (c : Circuit). accepted (laneCount L c before′ after′ n)) same
-          ∙ sym (count-lane file′ before′ after′ b′ n (rw same at h) L l);
+      same-sight = λ n t h. sights n h t;
+      same-level = λ n t h. ap levelPart (sights n h t);
+      same-count = same-count file file′ before after before′ after′ L l (held file before after r) (held file′ before′ after′ r′) same p q;
     }
 
 -- ---- what the words do not enter

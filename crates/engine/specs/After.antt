@@ -104,6 +104,7 @@ pub record After (file before after : List ℕ) (a : Areas) : Type 0 where
 
 -- two accepted Runs of one circuit c whose words agree in lane L, whatever the other lanes hold and whatever stood in the areas
 pub record Alike (c : Circuit) (L : ℕ) (a a′ : Areas) : Type 0 where
+  pub same-sight : (n t : ℕ) → n < netCount c → sightIn a n L t ≡ sightIn a′ n L t
   pub same-level : (n t : ℕ) → n < netCount c → levelIn a n L t ≡ levelIn a′ n L t
   pub same-count : (n : ℕ) → n < netCount c → countIn a n L ≡ countIn a′ n L
 

@@ -48,8 +48,9 @@ module _ (c : Circuit) (before after before′ after′ : List ℕ) (L : ℕ) (b
   pub same-values : traceAt c (laneOf L before after) n .values ≡ traceAt c (laneOf L before′ after′) n .values
   same-values = ap (λ (ns : List Trace). getD ns n noTrace .values) (same-traces c (laneOf L before after) (laneOf L before′ after′) same-pair)
 
-  alike : L < lanes → map (lane L) (packedValues c before after n) ≡ map (lane L) (packedValues c before′ after′ n)
-  alike h = own c before after L h n ∙ same-values ∙ sym (own c before′ after′ L h n)
+  -- so its bits of the packed values are
+  pub same-bits : L < lanes → map (lane L) (packedValues c before after n) ≡ map (lane L) (packedValues c before′ after′ n)
+  same-bits h = own c before after L h n ∙ same-values ∙ sym (own c before′ after′ L h n)
 
 pub in-lanes : Lanes
 in-lanes =
@@ -59,6 +60,6 @@ in-lanes =
       own-values = own;
       level-is-machine = level-own;
       count-is-machine = count-own;
-      same-level = λ c before after before′ after′ L h b a n t. ap (λ (vs : List Bool). level (framesAt c n .times) vs t) (alike c before after before′ after′ L b a n h);
-      same-count = λ c before after before′ after′ L h b a n. ap changes (alike c before after before′ after′ L b a n h);
+      same-level = λ c before after before′ after′ L h b a n t. ap (λ (vs : List Bool). level (framesAt c n .times) vs t) (same-bits c before after before′ after′ L b a n h);
+      same-count = λ c before after before′ after′ L h b a n. ap changes (same-bits c before after before′ after′ L b a n h);
     }
