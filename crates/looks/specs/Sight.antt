@@ -24,7 +24,7 @@ unfoldable pub endBy : List ℕ → End
 endBy [] = never
 endBy (next ∷ later) = at next
 
--- frame k of a net with these times and, in a lane, these levels; beyond the last frame there is level 0, time 0 and no end
+-- frame k of a net with these times and, in a lane, these levels; what the lists do not have is level 0, time 0 and no end
 unfoldable pub sightAt : List ℕ → List Bool → ℕ → Sight
 sightAt times levels k = record { level = getD levels k false; began = getD times k 0; end = endBy (drop (suc k) times) }
 

@@ -13,7 +13,7 @@ use slices::entry_at;
 use slices::word_at;
 
 // What is seen in the lane at the frame, from one net's parts of the times and the values, whatever they hold: nothing is
-// asked of them. A frame that is not there has level 0, time 0 and no end.
+// asked of them. What they do not have is level 0, time 0 and no end.
 pub fn sight_at(times: &[u16], values: &[u64], lane: u8, frame: Frame) -> Sight
     ensures { λ r. ⌜ sightOnPaper r ≡ sightAt (now (times .entry)) (map (bits.lane lane) (now (values .entry))) (frame .0) ⌝ }
 {
