@@ -5,24 +5,26 @@ use Prim.Native.Nat.{ℕ}
 use mathlib.Core.Path.{_≡_, refl, sym, ap, subst, _∙_}
 use mathlib.Core.Bool.{true}
 use mathlib.Core.List.{List}
-use lib.ListN.{length}
 use Rattle.lists.specs.Ladder.{Answer, accepted}
 use Rattle.lists.specs.Every.{Every}
 use Rattle.lists.proofs.Each.{every-map}
 use Rattle.method.specs.Circuit.{Circuit}
+use Rattle.method.specs.Frames.{framesAt}
+use Rattle.method.specs.Traces.{traceAt}
+use Rattle.method.specs.Packed.{laneOf}
 use Rattle.method.specs.Lanes.{AgreeIn}
 use Rattle.method.proofs.Lanes.{same-values}
-use Rattle.circuit.specs.File.{circuitOf}
+use Rattle.method.specs.WordLists.{WordLists, lengthsOf}
+use Rattle.circuit.specs.Task.{Task, circuitIn, netsIn, timesIn, laneValues}
 use Rattle.engine.specs.Areas.{Areas}
-use Rattle.method.specs.Values.{netCount}
 use Rattle.engine.specs.Questions.{areasSuit}
 use Rattle.engine.specs.After as engine
 use Rattle.engine.proofs.Asking.{passed-again}
 use Rattle.engine.proofs.Accepted.{parts, none}
 use Rattle.expectations.specs.declared.Expectation.{Expectation}
 use Rattle.expectations.specs.Suits.{listSuits}
-use Rattle.expectations.specs.Verdict.{Verdict, netTimes, laneLevels, verdict}
-use Rattle.marking.specs.Mark.{markOf}
+use Rattle.expectations.specs.Verdict.{Verdict, verdictFrom}
+use Rattle.marking.specs.Mark.{verdict, markOf}
 use Rattle.marking.proofs.Laddered.{ladder-none}
 use Rattle.marking.proofs.Marked.{mark-accepts}
 use Rattle.marking.proofs.Spans.{Agreeing, verdict-ext}
@@ -31,35 +33,40 @@ use Rattle.demands.proofs.Holding.{first-none-fails}
 
 -- ---- the verdict reads the lane alone
 
-module _ (c : Circuit) (before after before′ after′ : List ℕ) (L : ℕ) (b : AgreeIn L (c .inputs) before before′) (a : AgreeIn L (c .inputs) after after′) where
-  same-verdict : (list : List Expectation) → Every (λ (e : Expectation). e .lane ≡ L) list → verdict c before after list ≡ verdict c before′ after′ list
+module _ (task : Task) (w w′ : WordLists) (L : ℕ) (a : AgreeIn L (circuitIn task .inputs) w w′) where
+  same-verdict : (list : List Expectation) → Every (λ (e : Expectation). e .lane ≡ L) list → verdict task w list ≡ verdict task w′ list
   unfolding verdict
-  same-verdict list only = verdict-ext (netTimes c) (laneLevels c before after) (netTimes c) (laneLevels c before′ after′) 0 list (every-map agrees only)
+  same-verdict list only = verdict-ext (timesIn task) (laneValues task w) (timesIn task) (laneValues task w′) 0 list (every-map agrees only)
     where
-      agrees : (e : Expectation) → e .lane ≡ L → Agreeing (netTimes c) (laneLevels c before after) (netTimes c) (laneLevels c before′ after′) e
-      agrees e is = (refl, rw is (same-values c before after before′ after′ L b a (e .net .0)))
+      agrees : (e : Expectation) → e .lane ≡ L → Agreeing (timesIn task) (laneValues task w) (timesIn task) (laneValues task w′) e
+      agrees e is = (refl, rw is (same-values (circuitIn task) w w′ L a (e .net .0)))
+
+-- and of a file the circuit alone
+one-circuit : (task task′ : Task) (w : WordLists) → circuitIn task ≡ circuitIn task′ → (list : List Expectation) → verdict task w list ≡ verdict task′ w list
+unfolding verdict
+one-circuit task task′ w same list = ap (λ (c : Circuit). verdictFrom (λ (n : ℕ). framesAt c n .times) (λ (L n : ℕ). traceAt c (laneOf L w) n .values) 0 list) same
 
 -- ---- Mark accepts again, in areas of the right lengths
 
-marked-again : (file before after : List ℕ) {left : Areas} → engine.LeftByRun file before after left → (list : List Expectation) → listSuits (netCount (circuitOf file)) list ≡ true → (entry : Areas) → areasSuit entry ≡ true
-    → markOf file before after entry list .answer ≡ accepted (verdict (circuitOf file) before after list)
-marked-again file before after r list y entry s =
-    mark-accepts file before after entry list
-    (ladder-none file entry (length before) (length after) (listSuits (netCount (circuitOf file)) list)
-    (passed-again file (r .entry) entry (length before) (length after) (first-none-fails file before after r) s) y
-    (parts file (r .entry) (length before) (length after) (none file before after r) .1))
+marked-again : (task : Task) (w : WordLists) {left : Areas} → engine.LeftByRun task w left → (list : List Expectation) → listSuits (netsIn task) list ≡ true → (entry : Areas) → areasSuit entry ≡ true
+    → markOf task w entry list .answer ≡ accepted (verdict task w list)
+marked-again task w r list y entry s =
+    mark-accepts task w entry list
+    (ladder-none task (lengthsOf w) entry (listSuits (netsIn task) list)
+    (passed-again task (lengthsOf w) (r .entry) entry (first-none-fails task w r) s) y
+    (parts task (lengthsOf w) (r .entry) (none task w r) .1))
 
 -- two answers with one verdict
 one-verdict : {x y : Answer Verdict} {v : Verdict} → x ≡ accepted v → y ≡ accepted v → SameVerdict x y
 one-verdict {x} {y} {v} p q = subst (λ (a : Answer Verdict). SameVerdict a y) (sym p) (subst (λ (a : Answer Verdict). SameVerdict (accepted v) a) (sym q) (verdicts v))
 
-pub marked-alike : (file before after : List ℕ) {left : Areas} (file′ before′ after′ : List ℕ) {left′ : Areas} (L : ℕ)
-    → engine.LeftByRun file before after left → engine.LeftByRun file′ before′ after′ left′ → circuitOf file ≡ circuitOf file′
-    → AgreeIn L (circuitOf file .inputs) before before′ → AgreeIn L (circuitOf file .inputs) after after′
-    → (list : List Expectation) → listSuits (netCount (circuitOf file)) list ≡ true → Every (λ (e : Expectation). e .lane ≡ L) list
+pub marked-alike : (task : Task) (w : WordLists) {left : Areas} (task′ : Task) (w′ : WordLists) {left′ : Areas} (L : ℕ)
+    → engine.LeftByRun task w left → engine.LeftByRun task′ w′ left′ → circuitIn task ≡ circuitIn task′
+    → AgreeIn L (circuitIn task .inputs) w w′
+    → (list : List Expectation) → listSuits (netsIn task) list ≡ true → Every (λ (e : Expectation). e .lane ≡ L) list
     → (entry entry′ : Areas) → areasSuit entry ≡ true → areasSuit entry′ ≡ true
-    → SameVerdict (markOf file before after entry list .answer) (markOf file′ before′ after′ entry′ list .answer)
-marked-alike file before after file′ before′ after′ L r r′ same b a list y only entry entry′ s s′ =
+    → SameVerdict (markOf task w entry list .answer) (markOf task′ w′ entry′ list .answer)
+marked-alike task w task′ w′ L r r′ same a list y only entry entry′ s s′ =
     one-verdict
-    (marked-again file before after r list y entry s ∙ ap accepted (same-verdict (circuitOf file) before after before′ after′ L b a list only))
-    (marked-again file′ before′ after′ r′ list (rw same at y) entry′ s′ ∙ ap (λ (c : Circuit). accepted (verdict c before′ after′ list)) (sym same))
+    (marked-again task w r list y entry s ∙ ap accepted (same-verdict task w w′ L a list only))
+    (marked-again task′ w′ r′ list (rw same at y) entry′ s′ ∙ ap accepted (sym (one-circuit task task′ w′ same list)))

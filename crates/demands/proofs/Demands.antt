@@ -6,12 +6,13 @@ use mathlib.Core.Bool.{true}
 use mathlib.Core.List.{List, map}
 use lib.ListN.{length}
 use Rattle.lists.specs.Ladder.{firstNo}
-use Rattle.method.specs.Frames.{frames}
 use Rattle.method.specs.Look.{changes}
 use Rattle.method.specs.Words.{lane}
 use Rattle.method.proofs.Netwise.{net-by-net}
+use Rattle.method.specs.WordLists.{WordLists, lengthsOf}
 use Rattle.circuit.specs.File.{circuitOf}
 use Rattle.circuit.specs.Questions as circuit
+use Rattle.circuit.specs.Task.{Task, netsIn, framesIn}
 use Rattle.circuit.proofs.Gated.{questions-numbered}
 use Rattle.circuit.proofs.Faithful.{faithful}
 use Rattle.circuit.proofs.Bounded.{no-feedback}
@@ -22,7 +23,6 @@ use Rattle.method.specs.Layout.{laid}
 use Rattle.method.specs.Areas as plan
 use Rattle.planner.proofs.Calling.{plan-numbered, accepted-read, accepted-kept, accepted-lengths}
 use Rattle.engine.specs.Areas.{Areas, allCleared}
-use Rattle.method.specs.Values.{netCount}
 use Rattle.engine.specs.Questions as engine
 use Rattle.engine.specs.Run.{filled, runLeft, runOf}
 use Rattle.looks.specs.Sight.{sight}
@@ -34,8 +34,8 @@ use Rattle.engine.proofs.After.{after-runs, plan-left}
 use Rattle.expectations.specs.declared.Expectation.{Expectation}
 use Rattle.expectations.specs.Suits.{listSuits}
 use Rattle.marking.specs.Questions as marking
-use Rattle.expectations.specs.Verdict.{place, verdict}
-use Rattle.marking.specs.Mark.{markOf}
+use Rattle.expectations.specs.Verdict.{place}
+use Rattle.marking.specs.Mark.{verdict, markOf}
 use Rattle.marking.proofs.Laddered.{ladder-numbered, ladder-run}
 use Rattle.marking.proofs.Marked.{mark-ran}
 use Rattle.demands.specs.Answers.{SameRefusal}
@@ -48,26 +48,26 @@ use Rattle.demands.proofs.Alike.{marked-alike}
 -- ---- demand 1
 
 -- Mark's first "no" is then Run's
-mark-as-run : (file before after : List ℕ) (a : Areas) (list : List Expectation) → listSuits (netCount (circuitOf file)) list ≡ true → markOf file before after a list .left ≡ runOf file before after a .left
+mark-as-run : (task : Task) (w : WordLists) (a : Areas) (list : List Expectation) → listSuits (netsIn task) list ≡ true → markOf task w a list .left ≡ runOf task w a .left
 unfolding markOf runOf
-mark-as-run file before after a list y =
-    ap (λ (n : ℕ). runLeft n (circuitOf file) before after a) (ladder-run file a (length before) (length after) _ y)
+mark-as-run task w a list y =
+    ap (λ (n : ℕ). runLeft n task w a) (ladder-run task (lengthsOf w) a _ y)
 
 demand-1 : Demand1
 unfolding circuit.readOf planOf runOf markOf levelOf countOf
 demand-1 =
     record {
       read = λ file. answered (circuit.questions file) (questions-numbered file) (circuit.inputsAndGatesOf file);
-      plan = λ file a. answered (planner.questions file a) (plan-numbered file a) (totalsOf (frames (circuitOf file)));
-      plan-areas = λ file a. leaves (firstNo (planner.questions file a)) (totalsOf (frames (circuitOf file))) (laid (frames (circuitOf file)) a) (plan.allCleared a) a;
-      run = λ file before after a.
-          answered (engine.questions file a (length before) (length after)) (all-numbered file a (length before) (length after)) (totalsOf (frames (circuitOf file)));
-      run-areas = λ file before after a.
-          leaves (firstNo (engine.questions file a (length before) (length after))) (totalsOf (frames (circuitOf file))) (filled (circuitOf file) before after a) (allCleared a) a;
-      mark = λ file before after a list.
-          answered (marking.questions file a (length before) (length after) list) (ladder-numbered file a (length before) (length after) _) (verdict (circuitOf file) before after list);
-      mark-areas = λ file before after a list.
-          leaves (firstNo (marking.questions file a (length before) (length after) list)) (verdict (circuitOf file) before after list) (filled (circuitOf file) before after a) (allCleared a) a;
+      plan = λ task a. answered (planner.questions task a) (plan-numbered task a) (totalsOf (framesIn task));
+      plan-areas = λ task a. leaves (firstNo (planner.questions task a)) (totalsOf (framesIn task)) (laid (framesIn task) a) (plan.allCleared a) a;
+      run = λ task w a.
+          answered (engine.questions task (lengthsOf w) a) (all-numbered task (lengthsOf w) a) (totalsOf (framesIn task));
+      run-areas = λ task w a.
+          leaves (firstNo (engine.questions task (lengthsOf w) a)) (totalsOf (framesIn task)) (filled task w a) (allCleared a) a;
+      mark = λ task w a list.
+          answered (marking.questions task (lengthsOf w) a list) (ladder-numbered task (lengthsOf w) a _) (verdict task w list);
+      mark-areas = λ task w a list.
+          leaves (firstNo (marking.questions task (lengthsOf w) a list)) (verdict task w list) (filled task w a) (allCleared a) a;
       mark-as-run = mark-as-run;
       level = λ times values L t. answered (lookQuestions times values L) (look-numbered times values L) (sight times (map (lane L) values) t);
       count = λ times values L. answered (lookQuestions times values L) (look-numbered times values L) (changes (map (lane L) values));
@@ -80,29 +80,29 @@ unfolding circuit.inputsAndGatesOf
 demand-2-method =
     record {
       every-net = λ file s e. let nets = net-by-net (circuitOf file) in (nets .0, nets .1 (no-feedback (circuitOf file) (faithful .within file s e)));
-      plan-read = λ file entry left totals e. accepted-read file entry e;
-      run-read = λ file before after left r. held file before after (engine-ran file before after r) .read;
-      plan = λ file entry left totals e. accepted-kept file entry e;
-      run-plan = λ file before after left r. held file before after (engine-ran file before after r) .plan-is;
-      run-values = λ file before after left r. held file before after (engine-ran file before after r) .values-are;
-      counts = λ file before after left r. past-run file before after left r .count-is-own;
-      counts-machine = λ file before after left r. past-run file before after left r .count-is-machine;
+      plan-read = λ task entry left totals e. accepted-read task entry e;
+      run-read = λ task w left r. held task w (engine-ran task w r) .read;
+      plan = λ task entry left totals e. accepted-kept task entry e;
+      run-plan = λ task w left r. held task w (engine-ran task w r) .plan-is;
+      run-values = λ task w left r. held task w (engine-ran task w r) .values-are;
+      counts = λ task w left r. past-run task w left r .count-is-own;
+      counts-machine = λ task w left r. past-run task w left r .count-is-machine;
     }
 
 demand-2-lengths : Demand2Lengths
 demand-2-lengths =
     record {
-      plan = λ file entry left totals e. accepted-lengths file entry e;
-      run = λ file before after left r. held file before after r .suits;
-      mark = λ file before after list v left m. held file before after (mark-ran file before after (m .entry) list (m .marked)) .suits;
+      plan = λ task entry left totals e. accepted-lengths task entry e;
+      run = λ task w left r. held task w r .suits;
+      mark = λ task w list v left m. held task w (mark-ran task w (m .entry) list (m .marked)) .suits;
     }
 
-mark-patterns : (file before after before′ after′ : List ℕ) (a : Areas) (list : List Expectation) → length before ≡ length before′ → length after ≡ length after′
-    → SameRefusal (markOf file before after a list .answer) (markOf file before′ after′ a list .answer) × (markOf file before after a list .left .plan ≡ markOf file before′ after′ a list .left .plan)
+mark-patterns : (task : Task) (w w′ : WordLists) (a : Areas) (list : List Expectation) → lengthsOf w ≡ lengthsOf w′
+    → SameRefusal (markOf task w a list .answer) (markOf task w′ a list .answer) × (markOf task w a list .left .plan ≡ markOf task w′ a list .left .plan)
 unfolding markOf
-mark-patterns file before after before′ after′ a list p q = (
-  rw (p, q) (same-refusal (firstNo (marking.questions file a (length before′) (length after′) list)) (verdict (circuitOf file) before after list) (verdict (circuitOf file) before′ after′ list)),
-  plan-left _ (circuitOf file) before after a ∙ rw (p, q) (sym (plan-left _ (circuitOf file) before′ after′ a)),
+mark-patterns task w w′ a list p = (
+  rw p (same-refusal (firstNo (marking.questions task (lengthsOf w′) a list)) (verdict task w list) (verdict task w′ list)),
+  plan-left _ task w a ∙ rw p (sym (plan-left _ task w′ a)),
 )
 
 -- of the values Level and Count ask the length alone
@@ -127,7 +127,7 @@ demand-2-marking =
     record {
       passes = passes;
       passes-machine = passes-machine;
-      fails = λ file before after list i k left m. fails file before after list (place i k) left m i k refl;
+      fails = λ task w list i k left m. fails task w list (place i k) left m i k refl;
     }
 
 -- ---- demand 3
@@ -135,25 +135,25 @@ demand-2-marking =
 demand-3-level : Demand3Level
 demand-3-level =
     record {
-      level = λ file before after left r n L t h l u. past-run file before after left r .level-is-machine n L t h l;
-      parts = λ file before after left r. past-run file before after left r .parts;
+      level = λ task w left r n L t h l u. past-run task w left r .level-is-machine n L t h l;
+      parts = λ task w left r. past-run task w left r .parts;
     }
 
 demand-3-changes : Demand3Changes
 demand-3-changes =
     record {
-      changes = λ file before after left r n L t h l u d.
-          let a = past-run file before after left r in sym (a .times-are-potential n (suc t) h) ∙ a .changes-at-times n L t h l d;
-      times = λ file before after left r. past-run file before after left r .times-are-potential;
+      changes = λ task w left r n L t h l u d.
+          let a = past-run task w left r in sym (a .times-are-potential n (suc t) h) ∙ a .changes-at-times n L t h l d;
+      times = λ task w left r. past-run task w left r .times-are-potential;
     }
 
 demand-3-alike : Demand3Alike
 demand-3-alike =
     record {
-      level = λ L file before after left file′ before′ after′ left′ two n t h u. two-alike L file before after left file′ before′ after′ left′ two .same-level n t h;
-      count = λ L file before after left file′ before′ after′ left′ two. two-alike L file before after left file′ before′ after′ left′ two .same-count;
-      marking = λ L file before after left file′ before′ after′ left′ two.
-          marked-alike file before after file′ before′ after′ L (engine-ran file before after (two .ran)) (engine-ran file′ before′ after′ (two .ran′)) (two .one-circuit) (two .before-agree) (two .after-agree);
+      level = λ L task w left task′ w′ left′ two n t h u. two-alike L task w left task′ w′ left′ two .same-level n t h;
+      count = λ L task w left task′ w′ left′ two. two-alike L task w left task′ w′ left′ two .same-count;
+      marking = λ L task w left task′ w′ left′ two.
+          marked-alike task w task′ w′ L (engine-ran task w (two .ran)) (engine-ran task′ w′ (two .ran′)) (two .one-circuit) (two .words-agree);
     }
 
 -- ---- all of them

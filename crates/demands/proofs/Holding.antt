@@ -2,10 +2,9 @@
 -- Assumes nothing.
 use Prim.Native.Nat.{ℕ}
 use mathlib.Core.Path.{_≡_}
-use mathlib.Core.List.{List}
-use lib.ListN.{length}
 use Rattle.lists.specs.Ladder.{firstNo}
-use Rattle.circuit.specs.File.{circuitOf}
+use Rattle.method.specs.WordLists.{WordLists, lengthsOf}
+use Rattle.circuit.specs.Task.{Task}
 use Rattle.engine.specs.Areas.{Areas}
 use Rattle.engine.specs.Questions.{firstQuestions}
 use Rattle.engine.specs.After as engine
@@ -16,19 +15,19 @@ use Rattle.demands.specs.Runs.{Ran, by-run, by-mark}
 use Rattle.demands.specs.Demands.{TwoRuns}
 
 -- either leaves what an accepted Run leaves
-pub engine-ran : (file before after : List ℕ) {left : Areas} → Ran file before after left → engine.LeftByRun file before after left
-engine-ran file before after (by-run r) = r
-engine-ran file before after (by-mark list v m) = mark-ran file before after (m .entry) list (m .marked)
+pub engine-ran : (task : Task) (w : WordLists) {left : Areas} → Ran task w left → engine.LeftByRun task w left
+engine-ran task w (by-run r) = r
+engine-ran task w (by-mark list v m) = mark-ran task w (m .entry) list (m .marked)
 
-pub past-run : (file before after : List ℕ) (left : Areas) → Ran file before after left → engine.After file before after left
-past-run file before after left r = after-runs .after-run file before after left (engine-ran file before after r)
+pub past-run : (task : Task) (w : WordLists) (left : Areas) → Ran task w left → engine.After task w left
+past-run task w left r = after-runs .after-run task w left (engine-ran task w r)
 
 -- and what is said of two Runs of two runs of either kind
-pub two-alike : (L : ℕ) (file before after : List ℕ) (left : Areas) (file′ before′ after′ : List ℕ) (left′ : Areas) → TwoRuns L file before after left file′ before′ after′ left′ → engine.Alike (circuitOf file) L left left′
-two-alike L file before after left file′ before′ after′ left′ two =
-    after-runs .runs-alike file file′ before after before′ after′ left left′ L (two .lane) (engine-ran file before after (two .ran)) (engine-ran file′ before′ after′ (two .ran′))
-    (two .one-circuit) (two .before-agree) (two .after-agree)
+pub two-alike : (L : ℕ) (task : Task) (w : WordLists) (left : Areas) (task′ : Task) (w′ : WordLists) (left′ : Areas) → TwoRuns L task w left task′ w′ left′ → engine.Alike task L left left′
+two-alike L task w left task′ w′ left′ two =
+    after-runs .runs-alike task task′ w w′ left left′ L (two .lane) (engine-ran task w (two .ran)) (engine-ran task′ w′ (two .ran′))
+    (two .one-circuit) (two .words-agree)
 
-module _ (file before after : List ℕ) {left : Areas} (r : engine.LeftByRun file before after left) where
-  pub first-none-fails : firstNo (firstQuestions file (r .entry) (length before) (length after)) ≡ 0
-  first-none-fails = parts file (r .entry) (length before) (length after) (none file before after r) .0
+module _ (task : Task) (w : WordLists) {left : Areas} (r : engine.LeftByRun task w left) where
+  pub first-none-fails : firstNo (firstQuestions task (lengthsOf w) (r .entry)) ≡ 0
+  first-none-fails = parts task (lengthsOf w) (r .entry) (none task w r) .0

@@ -10,53 +10,49 @@ use Rattle.lists.specs.Ladder.{accepted}
 use Rattle.lists.specs.Every.{Every}
 use Rattle.lists.proofs.Each.{every-first, every-map, every-split, every-both}
 use Rattle.lists.proofs.Ladders.{accepted-same}
-use Rattle.method.specs.Circuit.{Circuit}
 use Rattle.method.specs.Indices.{lastFrame}
 use Rattle.method.specs.Look.{level}
-use Rattle.method.specs.Packed.{laneOf}
+use Rattle.method.specs.WordLists.{WordLists}
 use Rattle.method.proofs.Tracing.{value-each}
 use Rattle.method.proofs.Agreement.{agreement}
-use Rattle.circuit.specs.File.{circuitOf}
+use Rattle.circuit.specs.Task.{Task, circuitIn, netsIn, timesIn, stimuliIn, laneValues}
 use Rattle.engine.specs.Areas.{Areas}
-use Rattle.method.specs.Values.{netCount}
 use Rattle.engine.specs.After.{After, timesOf, levelIn}
 use Rattle.engine.proofs.After.{after-runs}
 use Rattle.expectations.specs.declared.Expectation.{Expectation}
 use Rattle.expectations.specs.Suits.{suits}
 use Rattle.marking.specs.Met.{MetBy, UnmetBy}
-use Rattle.expectations.specs.Verdict.{Verdict, allMet, place, verdictFrom, netTimes, laneLevels, verdict}
+use Rattle.expectations.specs.Verdict.{Verdict, allMet, place, verdictFrom}
 use Rattle.expectations.proofs.Judging.{net-below, lane-below, span-is, each-suits}
 use Rattle.marking.proofs.Marked.{verdict-is, list-suits, mark-ran}
 use Rattle.marking.proofs.Spans.{LevelAt, Sound, every-met, met-every, place-found}
 use Rattle.demands.specs.Runs.{Marked}
 use Rattle.demands.specs.Marks.{LevelMet, Met, MetByMachine, Place}
+use Rattle.marking.specs.Mark.{verdict}
 
-module _ (file before after : List ℕ) {left : Areas} (h : After file before after left) where
-  abbrev c : Circuit
-  c = circuitOf file
-
+module _ (task : Task) (w : WordLists) {left : Areas} (h : After task w left) where
   -- the times and the levels that Mark searches
   abbrev times : ℕ → List ℕ
-  times = netTimes c
+  times = timesIn task
 
   abbrev levels : ℕ → ℕ → List Bool
-  levels = laneLevels c before after
+  levels = laneValues task w
 
   abbrev Suits : Expectation → Type 0
-  Suits e = suits (netCount c) e ≡ true
+  Suits e = suits (netsIn task) e ≡ true
 
   module _ (e : Expectation) (y : Suits e) where
-    below : e .net .0 < netCount c
-    below = net-below (netCount c) e y
+    below : e .net .0 < netsIn task
+    below = net-below (netsIn task) e y
 
     -- Level answers the machine's level, which is that of the lane's own frames
     seen : (t : ℕ) → levelIn left (e .net .0) (e .lane) t ≡ accepted (level (times (e .net .0)) (levels (e .lane) (e .net .0)) t)
     seen t =
-        h .level-is-machine (e .net .0) (e .lane) t below (lane-below (netCount c) e y)
-        ∙ ap accepted (sym (agreement .level-is-machine c (laneOf (e .lane) before after) (e .net .0) t))
+        h .level-is-machine (e .net .0) (e .lane) t below (lane-below (netsIn task) e y)
+        ∙ ap accepted (sym (agreement .level-is-machine (circuitIn task) (stimuliIn task w (e .lane)) (e .net .0) t))
 
     sound : Sound times levels e
-    sound = (agreement .times-rise c (e .net .0), value-each c (laneOf (e .lane) before after) (e .net .0), span-is (netCount c) e y)
+    sound = (agreement .times-rise (circuitIn task) (e .net .0), value-each (circuitIn task) (stimuliIn task w (e .lane)) (e .net .0), span-is (netsIn task) e y)
 
     kept-met : MetBy (LevelAt times levels) e → Met left e
     kept-met k t since until = seen t ∙ ap accepted (k t since until)
@@ -64,11 +60,11 @@ module _ (file before after : List ℕ) {left : Areas} (h : After file before af
     met-kept : Met left e → MetBy (LevelAt times levels) e
     met-kept m t since until = accepted-same (sym (seen t) ∙ m t since until)
 
-    kept-machine : MetBy (LevelAt times levels) e → MetByMachine c before after e
-    kept-machine k t since until = sym (agreement .level-is-machine c (laneOf (e .lane) before after) (e .net .0) t) ∙ k t since until
+    kept-machine : MetBy (LevelAt times levels) e → MetByMachine task w e
+    kept-machine k t since until = sym (agreement .level-is-machine (circuitIn task) (stimuliIn task w (e .lane)) (e .net .0) t) ∙ k t since until
 
-    machine-kept : MetByMachine c before after e → MetBy (LevelAt times levels) e
-    machine-kept m t since until = agreement .level-is-machine c (laneOf (e .lane) before after) (e .net .0) t ∙ m t since until
+    machine-kept : MetByMachine task w e → MetBy (LevelAt times levels) e
+    machine-kept m t since until = agreement .level-is-machine (circuitIn task) (stimuliIn task w (e .lane)) (e .net .0) t ∙ m t since until
 
     broken-unmet : (k : ℕ) → UnmetBy (LevelAt times levels) times e k → UnmetBy (LevelMet left) (timesOf left) e k
     broken-unmet k b =
@@ -83,25 +79,25 @@ module _ (file before after : List ℕ) {left : Areas} (h : After file before af
 
 -- ---- an accepted Mark
 
-module _ (file before after : List ℕ) (list : List Expectation) (v : Verdict) (left : Areas) (m : Marked file before after list v left) where
-  past : After file before after left
-  past = after-runs .after-run file before after left (mark-ran file before after (m .entry) list (m .marked))
+module _ (task : Task) (w : WordLists) (list : List Expectation) (v : Verdict) (left : Areas) (m : Marked task w list v left) where
+  past : After task w left
+  past = after-runs .after-run task w left (mark-ran task w (m .entry) list (m .marked))
 
   abbrev ts : ℕ → List ℕ
-  ts = times file before after past
+  ts = times task w past
 
   abbrev vs : ℕ → ℕ → List Bool
-  vs = levels file before after past
+  vs = levels task w past
 
-  suit : Every (Suits file before after past) list
-  suit = each-suits (netCount (circuitOf file)) list (list-suits file before after (m .entry) list (m .marked))
+  suit : Every (Suits task w past) list
+  suit = each-suits (netsIn task) list (list-suits task w (m .entry) list (m .marked))
 
   sounds : Every (Sound ts vs) list
-  sounds = every-map (sound file before after past) suit
+  sounds = every-map (sound task w past) suit
 
   found : v ≡ verdictFrom ts vs 0 list
   unfolding verdict
-  found = verdict-is file before after (m .entry) list (m .marked)
+  found = verdict-is task w (m .entry) list (m .marked)
 
   met-all : v ≡ allMet → Every (MetBy (LevelAt ts vs)) list
   met-all e = met-every ts vs 0 list sounds (sym found ∙ e)
@@ -110,22 +106,22 @@ module _ (file before after : List ℕ) (list : List Expectation) (v : Verdict) 
   all-met k = found ∙ every-met ts vs 0 list sounds k
 
   pub passes : (v ≡ allMet → Every (Met left) list) × (Every (Met left) list → v ≡ allMet)
-  passes = (λ e. every-both (kept-met file before after past) suit (met-all e), λ k. all-met (every-both (met-kept file before after past) suit k))
+  passes = (λ e. every-both (kept-met task w past) suit (met-all e), λ k. all-met (every-both (met-kept task w past) suit k))
 
-  pub passes-machine : (v ≡ allMet → Every (MetByMachine (circuitOf file) before after) list) × (Every (MetByMachine (circuitOf file) before after) list → v ≡ allMet)
-  passes-machine = (λ e. every-both (kept-machine file before after past) suit (met-all e), λ k. all-met (every-both (machine-kept file before after past) suit k))
+  pub passes-machine : (v ≡ allMet → Every (MetByMachine task w) list) × (Every (MetByMachine task w) list → v ≡ allMet)
+  passes-machine = (λ e. every-both (kept-machine task w past) suit (met-all e), λ k. all-met (every-both (machine-kept task w past) suit k))
 
   pub fails : (i k : ℕ) → v ≡ place i k → Place left list i k
   fails i k p =
       let r = place-found ts vs 0 list sounds (sym found ∙ p) in
       let f = r .2 in
-      let parts = every-split (f .before) (subst (Every (Suits file before after past)) (f .splits) suit) in
+      let parts = every-split (f .before) (subst (Every (Suits task w past)) (f .splits) suit) in
       record {
         before = f .before;
         expectation = f .expectation;
         behind = f .behind;
         splits = f .splits;
         position = omega (arith, r .1, f .position);
-        met = every-both (kept-met file before after past) (parts .0) (f .met);
-        unmet = broken-unmet file before after past (f .expectation) (every-first (parts .1)) k (f .unmet);
+        met = every-both (kept-met task w past) (parts .0) (f .met);
+        unmet = broken-unmet task w past (f .expectation) (every-first (parts .1)) k (f .unmet);
       }

@@ -29,9 +29,9 @@ module _ (times values : List ℕ) (L t : ℕ) {s : Sight} (e : levelOf times va
 pub spans : Spans
 spans =
     record {
-      holds = λ file before after left r n L t h l u. past-run file before after left r .sight-holds n L t h l;
-      by-number = λ file before after left r. past-run file before after left r .frame-is-level;
+      holds = λ task w left r n L t h l u. past-run task w left r .sight-holds n L t h l;
+      by-number = λ task w left r. past-run task w left r .frame-is-level;
       by-times = λ times values values′ L L′ t s s′ e e′.
           (sym (began-is times values L t e) ∙ began-is times values′ L′ t e′, sym (end-is times values L t e) ∙ end-is times values′ L′ t e′);
-      alike = λ L file before after left file′ before′ after′ left′ two n t h u. two-alike L file before after left file′ before′ after′ left′ two .same-sight n t h;
+      alike = λ L task w left task′ w′ left′ two n t h u. two-alike L task w left task′ w′ left′ two .same-sight n t h;
     }

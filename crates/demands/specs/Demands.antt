@@ -12,17 +12,15 @@ use Rattle.lists.specs.Areas.{padded}
 use Rattle.lists.specs.Outcome.{outcome}
 use Rattle.lists.specs.Every.{Every}
 use Rattle.method.specs.Times.{among}
-use Rattle.method.specs.Frames.{frames}
-use Rattle.method.specs.Traces.{traceAt}
 use Rattle.method.specs.Look.{changes}
-use Rattle.method.specs.Machine.{machine}
 use Rattle.method.specs.Words.{lanes, lane}
-use Rattle.method.specs.Packed.{laneOf}
 use Rattle.method.specs.Netwise.{EveryNet, EveryGate}
-use Rattle.method.specs.Agreement.{changedTimes, potential}
+use Rattle.method.specs.Agreement.{changedTimes}
 use Rattle.method.specs.Lanes.{AgreeIn}
+use Rattle.method.specs.WordLists.{WordLists, lengthsOf}
 use Rattle.circuit.specs.File.{circuitOf}
 use Rattle.circuit.specs.Questions as circuit
+use Rattle.circuit.specs.Task.{Task, circuitIn, netsIn, framesIn, potentialIn, laneValues, machineIn, allPackedIn}
 use Rattle.method.specs.declared.Totals.{Totals}
 use Rattle.method.specs.Areas.{Areas as PlanAreas, allCleared as planCleared}
 use Rattle.method.specs.Layout.{laid}
@@ -30,7 +28,6 @@ use Rattle.planner.specs.Questions as planner
 use Rattle.method.specs.Sums.{totalsOf}
 use Rattle.planner.specs.Plan.{planOf}
 use Rattle.engine.specs.Areas.{Areas, allCleared}
-use Rattle.method.specs.Values.{netCount, allValues}
 use Rattle.engine.specs.Questions as engine
 use Rattle.engine.specs.Run.{filled, runOf}
 use Rattle.looks.specs.Sight.{sight}
@@ -39,8 +36,8 @@ use Rattle.engine.specs.After.{LeftByRun, timesOf, levelIn, countIn, NetParts, 
 use Rattle.expectations.specs.declared.Expectation.{Expectation}
 use Rattle.expectations.specs.Suits.{listSuits}
 use Rattle.marking.specs.Questions as marking
-use Rattle.expectations.specs.Verdict.{Verdict, allMet, place, verdict}
-use Rattle.marking.specs.Mark.{markOf}
+use Rattle.expectations.specs.Verdict.{Verdict, allMet, place}
+use Rattle.marking.specs.Mark.{verdict, markOf}
 use Rattle.demands.specs.Answers.{Answered, Leaves, SameRefusal, SameVerdict}
 use Rattle.demands.specs.Runs.{Marked, Ran, HoldsPlan}
 use Rattle.demands.specs.Marks.{Met, MetByMachine, Place}
@@ -52,19 +49,19 @@ use Rattle.demands.specs.Marks.{Met, MetByMachine, Place}
 -- down for it."
 pub record Demand1 : Type 0 where
   pub read : (file : List ℕ) → Answered (circuit.questions file) (circuit.inputsAndGatesOf file) (circuit.readOf file)
-  pub plan : (file : List ℕ) (a : PlanAreas) → Answered (planner.questions file a) (totalsOf (frames (circuitOf file))) (planOf file a .answer)
-  pub plan-areas : (file : List ℕ) (a : PlanAreas) → Leaves (planOf file a .answer) (laid (frames (circuitOf file)) a) (planCleared a) a (planOf file a .left)
-  pub run : (file before after : List ℕ) (a : Areas)
-      → Answered (engine.questions file a (length before) (length after)) (totalsOf (frames (circuitOf file))) (runOf file before after a .answer)
-  pub run-areas : (file before after : List ℕ) (a : Areas)
-      → Leaves (runOf file before after a .answer) (filled (circuitOf file) before after a) (allCleared a) a (runOf file before after a .left)
-  pub mark : (file before after : List ℕ) (a : Areas) (list : List Expectation)
-      → Answered (marking.questions file a (length before) (length after) list) (verdict (circuitOf file) before after list) (markOf file before after a list .answer)
-  pub mark-areas : (file before after : List ℕ) (a : Areas) (list : List Expectation)
-      → Leaves (markOf file before after a list .answer) (filled (circuitOf file) before after a) (allCleared a) a (markOf file before after a list .left)
+  pub plan : (task : Task) (a : PlanAreas) → Answered (planner.questions task a) (totalsOf (framesIn task)) (planOf task a .answer)
+  pub plan-areas : (task : Task) (a : PlanAreas) → Leaves (planOf task a .answer) (laid (framesIn task) a) (planCleared a) a (planOf task a .left)
+  pub run : (task : Task) (w : WordLists) (a : Areas)
+      → Answered (engine.questions task (lengthsOf w) a) (totalsOf (framesIn task)) (runOf task w a .answer)
+  pub run-areas : (task : Task) (w : WordLists) (a : Areas)
+      → Leaves (runOf task w a .answer) (filled task w a) (allCleared a) a (runOf task w a .left)
+  pub mark : (task : Task) (w : WordLists) (a : Areas) (list : List Expectation)
+      → Answered (marking.questions task (lengthsOf w) a list) (verdict task w list) (markOf task w a list .answer)
+  pub mark-areas : (task : Task) (w : WordLists) (a : Areas) (list : List Expectation)
+      → Leaves (markOf task w a list .answer) (filled task w a) (allCleared a) a (markOf task w a list .left)
   -- where the list passes question 12, Mark leaves the areas as Run does
-  pub mark-as-run : (file before after : List ℕ) (a : Areas) (list : List Expectation) → listSuits (netCount (circuitOf file)) list ≡ true
-      → markOf file before after a list .left ≡ runOf file before after a .left
+  pub mark-as-run : (task : Task) (w : WordLists) (a : Areas) (list : List Expectation) → listSuits (netsIn task) list ≡ true
+      → markOf task w a list .left ≡ runOf task w a .left
   pub level : (times values : List ℕ) (L t : ℕ) → Answered (lookQuestions times values L) (sight times (map (lane L) values) t) (levelOf times values L t)
   pub count : (times values : List ℕ) (L : ℕ) → Answered (lookQuestions times values L) (changes (map (lane L) values)) (countOf times values L)
 
@@ -77,97 +74,96 @@ pub record Demand2Method : Type 0 where
   -- of every accepted file's circuit the method's equations hold net by net, and none of them looks up a default
   pub every-net : (file : List ℕ) (s : circuit.InputsAndGates) → circuit.readOf file ≡ accepted s → EveryNet (circuitOf file) × EveryGate (circuitOf file)
   -- Plan and the calls that run accept only accepted files
-  pub plan-read : (file : List ℕ) (entry left : PlanAreas) (totals : Totals)
-      → outcome (accepted totals) left ≡ planOf file entry → circuit.readOf file ≡ accepted (circuit.inputsAndGatesOf file)
-  pub run-read : (file before after : List ℕ) (left : Areas) → Ran file before after left → circuit.readOf file ≡ accepted (circuit.inputsAndGatesOf file)
+  pub plan-read : (task : Task) (entry left : PlanAreas) (totals : Totals)
+      → outcome (accepted totals) left ≡ planOf task entry → circuit.readOf (task .file) ≡ accepted (circuit.inputsAndGatesOf (task .file))
+  pub run-read : (task : Task) (w : WordLists) (left : Areas) → Ran task w left → circuit.readOf (task .file) ≡ accepted (circuit.inputsAndGatesOf (task .file))
   -- what they leave in the areas, each area at its own length
-  pub plan : (file : List ℕ) (entry left : PlanAreas) (totals : Totals)
-      → outcome (accepted totals) left ≡ planOf file entry → HoldsPlan (circuitOf file) left
-  pub run-plan : (file before after : List ℕ) (left : Areas) → Ran file before after left → HoldsPlan (circuitOf file) (left .plan)
-  pub run-values : (file before after : List ℕ) (left : Areas) → Ran file before after left
-      → left .values ≡ padded (length (left .values)) (allValues (circuitOf file) before after)
+  pub plan : (task : Task) (entry left : PlanAreas) (totals : Totals)
+      → outcome (accepted totals) left ≡ planOf task entry → HoldsPlan (circuitIn task) left
+  pub run-plan : (task : Task) (w : WordLists) (left : Areas) → Ran task w left → HoldsPlan (circuitIn task) (left .plan)
+  pub run-values : (task : Task) (w : WordLists) (left : Areas) → Ran task w left
+      → left .values ≡ padded (length (left .values)) (allPackedIn task w)
   -- what Count answers is the number of changes of the lane's own values, and of the machine's level from 1 to 65,535
-  pub counts : (file before after : List ℕ) (left : Areas) → Ran file before after left → (n L : ℕ) → n < netCount (circuitOf file) → L < lanes
-      → countIn left n L ≡ accepted (changes (traceAt (circuitOf file) (laneOf L before after) n .values))
-  pub counts-machine : (file before after : List ℕ) (left : Areas) → Ran file before after left → (n L : ℕ) → n < netCount (circuitOf file) → L < lanes
-      → countIn left n L ≡ accepted (changedTimes (machine (circuitOf file) (laneOf L before after) n) lastTime)
+  pub counts : (task : Task) (w : WordLists) (left : Areas) → Ran task w left → (n L : ℕ) → n < netsIn task → L < lanes
+      → countIn left n L ≡ accepted (changes (laneValues task w L n))
+  pub counts-machine : (task : Task) (w : WordLists) (left : Areas) → Ran task w left → (n L : ℕ) → n < netsIn task → L < lanes
+      → countIn left n L ≡ accepted (changedTimes (machineIn task w L n) lastTime)
 
 -- the areas of an accepted Plan, Run or Mark have the lengths that question 10 asks for
 pub record Demand2Lengths : Type 0 where
-  pub plan : (file : List ℕ) (entry left : PlanAreas) (totals : Totals) → outcome (accepted totals) left ≡ planOf file entry → planner.areasSuit left ≡ true
-  pub run : (file before after : List ℕ) (left : Areas) → LeftByRun file before after left → engine.areasSuit left ≡ true
-  pub mark : (file before after : List ℕ) (list : List Expectation) (v : Verdict) (left : Areas) → Marked file before after list v left → engine.areasSuit left ≡ true
+  pub plan : (task : Task) (entry left : PlanAreas) (totals : Totals) → outcome (accepted totals) left ≡ planOf task entry → planner.areasSuit left ≡ true
+  pub run : (task : Task) (w : WordLists) (left : Areas) → LeftByRun task w left → engine.areasSuit left ≡ true
+  pub mark : (task : Task) (w : WordLists) (list : List Expectation) (v : Verdict) (left : Areas) → Marked task w list v left → engine.areasSuit left ≡ true
 
 -- Document 01 adds: "No pattern bit enters a number, a plan area or these totals." Word lists of equal lengths give the same
 -- answer of Run; of Mark the same refusal, or two acceptances; and the same plan areas. Values of equal lengths give of Level
 -- and of Count the same refusal, or two acceptances
 pub record Demand2Patterns : Type 0 where
-  pub run : (file before after before′ after′ : List ℕ) (a : Areas) → length before ≡ length before′ → length after ≡ length after′
-      → (runOf file before after a .answer ≡ runOf file before′ after′ a .answer)
-      × (runOf file before after a .left .plan ≡ runOf file before′ after′ a .left .plan)
-  pub mark : (file before after before′ after′ : List ℕ) (a : Areas) (list : List Expectation)
-      → length before ≡ length before′ → length after ≡ length after′
-      → SameRefusal (markOf file before after a list .answer) (markOf file before′ after′ a list .answer)
-      × (markOf file before after a list .left .plan ≡ markOf file before′ after′ a list .left .plan)
+  pub run : (task : Task) (w w′ : WordLists) (a : Areas) → lengthsOf w ≡ lengthsOf w′
+      → (runOf task w a .answer ≡ runOf task w′ a .answer)
+      × (runOf task w a .left .plan ≡ runOf task w′ a .left .plan)
+  pub mark : (task : Task) (w w′ : WordLists) (a : Areas) (list : List Expectation)
+      → lengthsOf w ≡ lengthsOf w′
+      → SameRefusal (markOf task w a list .answer) (markOf task w′ a list .answer)
+      × (markOf task w a list .left .plan ≡ markOf task w′ a list .left .plan)
   pub level : (times values values′ : List ℕ) (L t : ℕ) → length values ≡ length values′ → SameRefusal (levelOf times values L t) (levelOf times values′ L t)
   pub count : (times values values′ : List ℕ) (L : ℕ) → length values ≡ length values′ → SameRefusal (countOf times values L) (countOf times values′ L)
 
 -- "and a marking passes exactly if every expectation is met at each time it covers."
 pub record Demand2Marking : Type 0 where
-  pub passes : (file before after : List ℕ) (list : List Expectation) (v : Verdict) (left : Areas) → Marked file before after list v left
+  pub passes : (task : Task) (w : WordLists) (list : List Expectation) (v : Verdict) (left : Areas) → Marked task w list v left
       → (v ≡ allMet → Every (Met left) list) × (Every (Met left) list → v ≡ allMet)
   -- the levels are the machine's
-  pub passes-machine : (file before after : List ℕ) (list : List Expectation) (v : Verdict) (left : Areas) → Marked file before after list v left
-      → (v ≡ allMet → Every (MetByMachine (circuitOf file) before after) list)
-      × (Every (MetByMachine (circuitOf file) before after) list → v ≡ allMet)
+  pub passes-machine : (task : Task) (w : WordLists) (list : List Expectation) (v : Verdict) (left : Areas) → Marked task w list v left
+      → (v ≡ allMet → Every (MetByMachine task w) list)
+      × (Every (MetByMachine task w) list → v ≡ allMet)
   -- a marking that does not pass names the first expectation that is not met, and the frame that breaks it
-  pub fails : (file before after : List ℕ) (list : List Expectation) (i k : ℕ) (left : Areas)
-      → Marked file before after list (place i k) left → Place left list i k
+  pub fails : (task : Task) (w : WordLists) (list : List Expectation) (i k : ℕ) (left : Areas)
+      → Marked task w list (place i k) left → Place left list i k
 
 -- ---- demand 3
 
 -- "After whatever accepted run, on whatever net, in whichever of the 64 lanes and at whatever point in time from 0 to 65,535
 -- you look, the level is that of the time-by-time machine in document 01, run for that lane's pattern pair by itself."
 pub record Demand3Level : Type 0 where
-  pub level : (file before after : List ℕ) (left : Areas) → Ran file before after left
-      → (n L t : ℕ) → n < netCount (circuitOf file) → L < lanes → t ≤ lastTime
-      → levelIn left n L t ≡ accepted (machine (circuitOf file) (laneOf L before after) n t)
+  pub level : (task : Task) (w : WordLists) (left : Areas) → Ran task w left
+      → (n L t : ℕ) → n < netsIn task → L < lanes → t ≤ lastTime
+      → levelIn left n L t ≡ accepted (machineIn task w L n t)
   -- where one looks: the net's pair in the directory names 1 to 64 frames, which lie within the areas
-  pub parts : (file before after : List ℕ) (left : Areas) → Ran file before after left → (n : ℕ) → n < netCount (circuitOf file) → NetParts left n
+  pub parts : (task : Task) (w : WordLists) (left : Areas) → Ran task w left → (n : ℕ) → n < netsIn task → NetParts left n
 
 -- "From time 1 on it differs from the level one unit earlier only at a potential time of the net."
 pub record Demand3Changes : Type 0 where
-  pub changes : (file before after : List ℕ) (left : Areas) → Ran file before after left
-      → (n L t : ℕ) → n < netCount (circuitOf file) → L < lanes → suc t ≤ lastTime
-      → levelIn left n L (suc t) ≢ levelIn left n L t → potential (circuitOf file) n (suc t) ≡ true
+  pub changes : (task : Task) (w : WordLists) (left : Areas) → Ran task w left
+      → (n L t : ℕ) → n < netsIn task → L < lanes → suc t ≤ lastTime
+      → levelIn left n L (suc t) ≢ levelIn left n L t → potentialIn task n (suc t) ≡ true
   -- the net's entries in the times area are its potential times
-  pub times : (file before after : List ℕ) (left : Areas) → Ran file before after left
-      → (n t : ℕ) → n < netCount (circuitOf file) → among t (timesOf left n) ≡ potential (circuitOf file) n t
+  pub times : (task : Task) (w : WordLists) (left : Areas) → Ran task w left
+      → (n t : ℕ) → n < netsIn task → among t (timesOf left n) ≡ potentialIn task n t
 
 -- "Two accepted runs of one circuit whose words agree in a lane, whatever the other 63 lanes of each hold,"
-pub record TwoRuns (L : ℕ) (file before after : List ℕ) (left : Areas) (file′ before′ after′ : List ℕ) (left′ : Areas) : Type 0 where
+pub record TwoRuns (L : ℕ) (task : Task) (w : WordLists) (left : Areas) (task′ : Task) (w′ : WordLists) (left′ : Areas) : Type 0 where
   pub lane : L < lanes
-  pub ran : Ran file before after left
-  pub ran′ : Ran file′ before′ after′ left′
-  pub one-circuit : circuitOf file ≡ circuitOf file′
-  pub before-agree : AgreeIn L (circuitOf file .inputs) before before′
-  pub after-agree : AgreeIn L (circuitOf file .inputs) after after′
+  pub ran : Ran task w left
+  pub ran′ : Ran task′ w′ left′
+  pub one-circuit : circuitIn task ≡ circuitIn task′
+  pub words-agree : AgreeIn L (circuitIn task .inputs) w w′
 
 -- "are alike in that lane: the same level on every net at every time from 0 to 65,535, the same transition count of every net,
 -- and the same marking." A marking is Mark's answer for a list that passes question 12 and whose records all name that lane;
 -- Mark is lent areas of the right lengths and whatever content
 pub record Demand3Alike : Type 0 where
-  pub level : (L : ℕ) (file before after : List ℕ) (left : Areas) (file′ before′ after′ : List ℕ) (left′ : Areas)
-      → TwoRuns L file before after left file′ before′ after′ left′
-      → (n t : ℕ) → n < netCount (circuitOf file) → t ≤ lastTime → levelIn left n L t ≡ levelIn left′ n L t
-  pub count : (L : ℕ) (file before after : List ℕ) (left : Areas) (file′ before′ after′ : List ℕ) (left′ : Areas)
-      → TwoRuns L file before after left file′ before′ after′ left′
-      → (n : ℕ) → n < netCount (circuitOf file) → countIn left n L ≡ countIn left′ n L
-  pub marking : (L : ℕ) (file before after : List ℕ) (left : Areas) (file′ before′ after′ : List ℕ) (left′ : Areas)
-      → TwoRuns L file before after left file′ before′ after′ left′
-      → (list : List Expectation) → listSuits (netCount (circuitOf file)) list ≡ true → Every (λ (e : Expectation). e .lane ≡ L) list
+  pub level : (L : ℕ) (task : Task) (w : WordLists) (left : Areas) (task′ : Task) (w′ : WordLists) (left′ : Areas)
+      → TwoRuns L task w left task′ w′ left′
+      → (n t : ℕ) → n < netsIn task → t ≤ lastTime → levelIn left n L t ≡ levelIn left′ n L t
+  pub count : (L : ℕ) (task : Task) (w : WordLists) (left : Areas) (task′ : Task) (w′ : WordLists) (left′ : Areas)
+      → TwoRuns L task w left task′ w′ left′
+      → (n : ℕ) → n < netsIn task → countIn left n L ≡ countIn left′ n L
+  pub marking : (L : ℕ) (task : Task) (w : WordLists) (left : Areas) (task′ : Task) (w′ : WordLists) (left′ : Areas)
+      → TwoRuns L task w left task′ w′ left′
+      → (list : List Expectation) → listSuits (netsIn task) list ≡ true → Every (λ (e : Expectation). e .lane ≡ L) list
       → (entry entry′ : Areas) → engine.areasSuit entry ≡ true → engine.areasSuit entry′ ≡ true
-      → SameVerdict (markOf file before after entry list .answer) (markOf file′ before′ after′ entry′ list .answer)
+      → SameVerdict (markOf task w entry list .answer) (markOf task′ w′ entry′ list .answer)
 
 -- ---- all of them
 

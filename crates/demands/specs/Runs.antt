@@ -1,5 +1,4 @@
 -- Accepted runs, and what they leave.
-use Prim.Native.Nat.{ℕ}
 use mathlib.Core.Path.{_≡_}
 use mathlib.Core.List.{List}
 use Rattle.lists.specs.Ladder.{accepted}
@@ -8,6 +7,8 @@ use Rattle.method.specs.Circuit.{Circuit}
 use Rattle.method.specs.Frames.{frames}
 use Rattle.method.specs.Areas as planner
 use Rattle.method.specs.Layout.{laid}
+use Rattle.method.specs.WordLists.{WordLists}
+use Rattle.circuit.specs.Task.{Task}
 use Rattle.engine.specs.Areas.{Areas}
 use Rattle.engine.specs.After as engine
 use Rattle.expectations.specs.declared.Expectation.{Expectation}
@@ -15,15 +16,15 @@ use Rattle.expectations.specs.Verdict.{Verdict}
 use Rattle.marking.specs.Mark.{markOf}
 
 -- an accepted Mark with this list: it answers the verdict v, and `left` is what it leaves; its areas held `entry`
-pub record Marked (file before after : List ℕ) (list : List Expectation) (v : Verdict) (left : Areas) : Type 0 where
+pub record Marked (task : Task) (w : WordLists) (list : List Expectation) (v : Verdict) (left : Areas) : Type 0 where
   pub entry : Areas
-  pub marked : outcome (accepted v) left ≡ markOf file before after entry list
+  pub marked : outcome (accepted v) left ≡ markOf task w entry list
 
--- `left` is what an accepted run of the file with these words leaves in the areas: an accepted Run, or an accepted Mark with
+-- `left` is what an accepted run of the task with these words leaves in the areas: an accepted Run, or an accepted Mark with
 -- whatever list and verdict
-pub data Ran (file before after : List ℕ) (left : Areas) : Type 0 where
-  by-run : engine.LeftByRun file before after left → Ran file before after left
-  by-mark : (list : List Expectation) (v : Verdict) → Marked file before after list v left → Ran file before after left
+pub data Ran (task : Task) (w : WordLists) (left : Areas) : Type 0 where
+  by-run : engine.LeftByRun task w left → Ran task w left
+  by-mark : (list : List Expectation) (v : Verdict) → Marked task w list v left → Ran task w left
 
 -- the four plan areas hold the frames of a circuit: a pair a net, the times and the inertial indices in net order, the
 -- fan-in indices by gate, by frame, by fan-in; the rest of each area, whatever its length, is 0

@@ -1,10 +1,10 @@
 -- What an accepted run says: every question was answered yes, so the areas hold the plan, at their own lengths, and the
 -- packed values.
 -- Assumes nothing.
-use Prim.Native.Nat.{ℕ, _≤_}
+use Prim.Native.Nat.{_≤_}
 use mathlib.Core.Path.{_≡_, refl, sym, ap, ap₂, _∙_}
 use mathlib.Core.Bool.{true}
-use mathlib.Core.List.{List, []}
+use mathlib.Core.List.{[]}
 use native.Mathlib.Omega.{arith}
 use lib.ListN.{length}
 use borrow.Author.Tests.{eq-eqb}
@@ -15,10 +15,10 @@ use Rattle.lists.proofs.Choices.{and-both}
 use Rattle.lists.proofs.Padding.{pad-length, pad-kept}
 use Rattle.lists.proofs.Ladders.{first-none, asked, unless-none}
 use Rattle.lists.proofs.Leaving.{left-none, accepted-left}
-use Rattle.method.specs.Circuit.{Circuit}
-use Rattle.method.specs.Frames.{frames}
-use Rattle.circuit.specs.File.{inputsOf, gatesOf, circuitOf}
+use Rattle.method.specs.WordLists.{WordLists, Lengths, lengthsOf}
+use Rattle.circuit.specs.File.{inputsOf, gatesOf}
 use Rattle.circuit.specs.Questions as reader
+use Rattle.circuit.specs.Task.{Task, circuitIn, framesIn, allPackedIn}
 use Rattle.method.specs.Layout.{laid}
 use Rattle.method.specs.Sums.{fits, totalsOf}
 use Rattle.method.proofs.Fitting.{fits-total}
@@ -26,7 +26,6 @@ use Rattle.method.proofs.Parts.{all-words}
 use Rattle.planner.specs.Questions as planner
 use Rattle.planner.proofs.Calling.{plan-kept, plan-lengths}
 use Rattle.engine.specs.Areas.{Areas, allCleared}
-use Rattle.method.specs.Values.{allValues}
 use Rattle.engine.specs.Questions.{valuesLength, areasSuit, firstQuestions, questions}
 use Rattle.engine.specs.Run.{filled, runOf}
 use Rattle.engine.specs.After.{LeftByRun}
@@ -35,74 +34,74 @@ use Rattle.engine.proofs.Answering.{joined}
 
 -- ---- no question was answered no
 
-module _ (file : List ℕ) (a : Areas) (before after : ℕ) (e : firstNo (questions file a before after) ≡ 0) where
-  pub parts : (firstNo (firstQuestions file a before after) ≡ 0) × (firstNo (planner.lastQuestion file) ≡ 0)
-  parts = first-none (firstNo (firstQuestions file a before after)) (firstNo (planner.lastQuestion file)) (sym (joined file a before after) ∙ e)
+module _ (task : Task) (l : Lengths) (a : Areas) (e : firstNo (questions task l a) ≡ 0) where
+  pub parts : (firstNo (firstQuestions task l a) ≡ 0) × (firstNo (planner.lastQuestion task) ≡ 0)
+  parts = first-none (firstNo (firstQuestions task l a)) (firstNo (planner.lastQuestion task)) (sym (joined task l a) ∙ e)
 
-  yes-all : Passed file a before after
-  yes-all = passed file a before after (parts .0)
+  yes-all : Passed task l a
+  yes-all = passed task l a (parts .0)
 
-  file-read : reader.readOf file ≡ accepted (record { inputs = inputsOf file; gates = gatesOf file })
+  file-read : reader.readOf (task .file) ≡ accepted (record { inputs = inputsOf (task .file); gates = gatesOf (task .file) })
   unfolding reader.readOf reader.inputsAndGatesOf
-  file-read = unless-none (firstNo (reader.questions file)) (reader.inputsAndGatesOf file) (yes-all .reads)
+  file-read = unless-none (firstNo (reader.questions (task .file))) (reader.inputsAndGatesOf (task .file)) (yes-all .reads)
 
-  plan-fit : fits (frames (circuitOf file)) ≡ true
-  plan-fit = asked (fits (frames (circuitOf file))) 13 [] (λ z. omega arith) (parts .1) .0
+  plan-fit : fits (framesIn task) ≡ true
+  plan-fit = asked (fits (framesIn task)) 13 [] (λ z. omega arith) (parts .1) .0
 
 -- ---- what it leaves
 
 -- the areas hold the plan and the packed values of an accepted file, at their own lengths, which are those of question 10
-pub record Held (file before after : List ℕ) (a : Areas) : Type 0 where
-  pub read : reader.readOf file ≡ accepted (record { inputs = inputsOf file; gates = gatesOf file })
-  pub fit : fits (frames (circuitOf file)) ≡ true
-  pub plan-is : a .plan ≡ laid (frames (circuitOf file)) (a .plan)
-  pub values-are : a .values ≡ padded (length (a .values)) (allValues (circuitOf file) before after)
+pub record Held (task : Task) (w : WordLists) (a : Areas) : Type 0 where
+  pub read : reader.readOf (task .file) ≡ accepted (record { inputs = inputsOf (task .file); gates = gatesOf (task .file) })
+  pub fit : fits (framesIn task) ≡ true
+  pub plan-is : a .plan ≡ laid (framesIn task) (a .plan)
+  pub values-are : a .values ≡ padded (length (a .values)) (allPackedIn task w)
   pub suits : areasSuit a ≡ true
 
-pub filled-plan : (c : Circuit) (before after : List ℕ) (a : Areas) → filled c before after a .plan ≡ laid (frames c) (a .plan)
+pub filled-plan : (task : Task) (w : WordLists) (a : Areas) → filled task w a .plan ≡ laid (framesIn task) (a .plan)
 unfolding filled
-filled-plan c before after a = refl
+filled-plan task w a = refl
 
-filled-values : (c : Circuit) (before after : List ℕ) (a : Areas) → filled c before after a .values ≡ padded (length (a .values)) (allValues c before after)
+filled-values : (task : Task) (w : WordLists) (a : Areas) → filled task w a .values ≡ padded (length (a .values)) (allPackedIn task w)
 unfolding filled
-filled-values c before after a = refl
+filled-values task w a = refl
 
 -- a run whose questions are all answered yes, in areas that held `entry`
-pub ran-filled : (file before after : List ℕ) (entry : Areas) {a : Areas} → firstNo (questions file entry (length before) (length after)) ≡ 0 → a ≡ filled (circuitOf file) before after entry → LeftByRun file before after a
+pub ran-filled : (task : Task) (w : WordLists) (entry : Areas) {a : Areas} → firstNo (questions task (lengthsOf w) entry) ≡ 0 → a ≡ filled task w entry → LeftByRun task w a
 unfolding runOf
-ran-filled file before after entry e is =
-    let totals = totalsOf (frames (circuitOf file)) in
-    let none-left = left-none (filled (circuitOf file) before after entry) (allCleared entry) entry in
+ran-filled task w entry e is =
+    let totals = totalsOf (framesIn task) in
+    let none-left = left-none (filled task w entry) (allCleared entry) entry in
     record { totals = totals; entry = entry; ran = ap (outcome (accepted totals)) is ∙ rw e (sym (ap₂ outcome (unless-none 0 totals refl) none-left)) }
 
-module _ (file before after : List ℕ) {a : Areas} (r : LeftByRun file before after a) where
-  accepts : (firstNo (questions file (r .entry) (length before) (length after)) ≡ 0) × (totalsOf (frames (circuitOf file)) ≡ r .totals) × (a ≡ filled (circuitOf file) before after (r .entry))
+module _ (task : Task) (w : WordLists) {a : Areas} (r : LeftByRun task w a) where
+  accepts : (firstNo (questions task (lengthsOf w) (r .entry)) ≡ 0) × (totalsOf (framesIn task) ≡ r .totals) × (a ≡ filled task w (r .entry))
   unfolding runOf
   accepts =
-      accepted-left (firstNo (questions file (r .entry) (length before) (length after))) (totalsOf (frames (circuitOf file))) (filled (circuitOf file) before after (r .entry))
+      accepted-left (firstNo (questions task (lengthsOf w) (r .entry))) (totalsOf (framesIn task)) (filled task w (r .entry))
       (allCleared (r .entry)) (r .entry) (r .ran)
 
-  pub none : firstNo (questions file (r .entry) (length before) (length after)) ≡ 0
+  pub none : firstNo (questions task (lengthsOf w) (r .entry)) ≡ 0
   none = accepts .0
 
-  pub left-filled : a ≡ filled (circuitOf file) before after (r .entry)
+  pub left-filled : a ≡ filled task w (r .entry)
   left-filled = accepts .2
 
-  pub held : Held file before after a
+  pub held : Held task w a
   unfolding areasSuit
   held =
-      let read = file-read file (r .entry) (length before) (length after) none in
-      let fit = plan-fit file (r .entry) (length before) (length after) none in
-      let yes = yes-all file (r .entry) (length before) (length after) none in
-      let plan = ap (λ (x : Areas). x .plan) left-filled ∙ filled-plan (circuitOf file) before after (r .entry) in
-      let values = ap (λ (x : Areas). x .values) left-filled ∙ filled-values (circuitOf file) before after (r .entry) in
-      let room : length (allValues (circuitOf file) before after) ≤ length (r .entry .values) =
-      omega (arith, all-words (circuitOf file) before after, fits-total (frames (circuitOf file)) fit, yes .values) in
+      let read = file-read task (lengthsOf w) (r .entry) none in
+      let fit = plan-fit task (lengthsOf w) (r .entry) none in
+      let yes = yes-all task (lengthsOf w) (r .entry) none in
+      let plan = ap (λ (x : Areas). x .plan) left-filled ∙ filled-plan task w (r .entry) in
+      let values = ap (λ (x : Areas). x .values) left-filled ∙ filled-values task w (r .entry) in
+      let room : length (allPackedIn task w) ≤ length (r .entry .values) =
+      omega (arith, all-words (circuitIn task) w, fits-total (framesIn task) fit, yes .values) in
       let same : length (a .values) ≡ valuesLength = ap length values ∙ pad-length _ _ room ∙ yes .values in
       record {
         read = read;
         fit = fit;
-        plan-is = plan-kept file read (r .entry .plan) (yes .suits) fit plan;
-        values-are = pad-kept (length (r .entry .values)) (allValues (circuitOf file) before after) values room;
-        suits = and-both _ _ (plan-lengths file read (r .entry .plan) (yes .suits) fit plan) (eq-eqb _ _ same);
+        plan-is = plan-kept task read (r .entry .plan) (yes .suits) fit plan;
+        values-are = pad-kept (length (r .entry .values)) (allPackedIn task w) values room;
+        suits = and-both _ _ (plan-lengths task read (r .entry .plan) (yes .suits) fit plan) (eq-eqb _ _ same);
       }

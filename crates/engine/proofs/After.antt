@@ -25,7 +25,9 @@ use Rattle.method.proofs.Rising.{Starts, test-starts}
 use Rattle.method.proofs.Netwise.{net-by-net}
 use Rattle.method.proofs.Agreement.{agreement}
 use Rattle.method.proofs.Lanes.{in-lanes, same-bits}
-use Rattle.circuit.specs.File.{inputsOf, circuitOf}
+use Rattle.method.specs.WordLists.{WordLists, lengthsOf}
+use Rattle.circuit.specs.File.{inputsOf}
+use Rattle.circuit.specs.Task.{Task, circuitIn, netsIn, framesIn}
 use Rattle.circuit.proofs.Bounded.{time-small}
 use Rattle.method.specs.Limits.{mostNetFrames, mostTotalFrames}
 use Rattle.method.specs.Areas as areas
@@ -33,7 +35,6 @@ use Rattle.method.specs.Layout.{laid, firstFrame, frameCount}
 use Rattle.method.proofs.Fitting.{fits-total, fits-net}
 use Rattle.method.proofs.Laying.{pair-first, pair-count, times-part, frames-end}
 use Rattle.engine.specs.Areas.{Areas, allCleared}
-use Rattle.method.specs.Values.{netCount}
 use Rattle.planner.specs.Plan.{planOf}
 use Rattle.engine.specs.Questions.{valuesLength, wordsSuit}
 use Rattle.engine.specs.Run.{runLeft, runOf}
@@ -63,9 +64,9 @@ module _ (times values : List ℕ) (L : ℕ) (same : length times ≡ length val
 
 -- ---- net n after an accepted run
 
-module _ (file before after : List ℕ) {a : Areas} (b : Held file before after a) (n : ℕ) (h : n < netCount (circuitOf file)) where
+module _ (task : Task) (w : WordLists) {a : Areas} (b : Held task w a) (n : ℕ) (h : n < netsIn task) where
   abbrev c : Circuit
-  c = circuitOf file
+  c = circuitIn task
 
   there : n < length (frames c)
   there = rw (nets-count c) h
@@ -82,8 +83,8 @@ module _ (file before after : List ℕ) {a : Areas} (b : Held file before after 
   pub times-are : timesOf a n ≡ framesAt c n .times
   times-are = times-part (frames c) (b .plan-is) n there
 
-  pub values-are : valuesOf a n ≡ packedValues c before after n
-  values-are = words-part c before after (b .plan-is) n (length (a .values)) h (b .values-are)
+  pub values-are : valuesOf a n ≡ packedValues c w n
+  values-are = words-part c w (b .plan-is) n (length (a .values)) h (b .values-are)
 
   inside : firstFrame (a .plan .directory) n + frameCount (a .plan .directory) n ≤ mostTotalFrames
   inside = omega (arith, pair-first (frames c) (b .plan-is) n there, count-is, frames-end (frames c) n there, fits-total (frames c) (b .fit))
@@ -94,98 +95,98 @@ module _ (file before after : List ℕ) {a : Areas} (b : Held file before after 
   module _ (L : ℕ) (l : L < lanes) where
     -- the lane's bits of the net's words
     abbrev bits : List Bool
-    bits = map (lane L) (packedValues c before after n)
+    bits = map (lane L) (packedValues c w n)
 
     sight-lane : (t : ℕ) → sightIn a n L t ≡ accepted (sight (framesAt c n .times) bits t)
     sight-lane t =
         rw (times-are, values-are)
-        (sight-answered (framesAt c n .times) (packedValues c before after n) L (sym (word-each c before after n)) frames-some frames-few (agreement .times-rise c n) l t)
+        (sight-answered (framesAt c n .times) (packedValues c w n) L (sym (word-each c w n)) frames-some frames-few (agreement .times-rise c n) l t)
 
-    level-lane : (t : ℕ) → levelIn a n L t ≡ accepted (laneLevel L c before after n t)
+    level-lane : (t : ℕ) → levelIn a n L t ≡ accepted (laneLevel L c w n t)
     unfolding sight sightAt
     level-lane t = ap levelPart (sight-lane t)
 
     starts : Starts (framesAt c n .times)
     starts = test-starts (framesAt c n .times) (agreement .times-rise c n)
 
-    sight-holds : (t : ℕ) → SightHolds c before after a n L t
+    sight-holds : (t : ℕ) → SightHolds task w a n L t
     sight-holds t =
         record {
           seen = sight (framesAt c n .times) bits t;
           answers = sight-lane t;
-          holds = holds (framesAt c n .times) starts bits (machine c (laneOf L before after) n) (in-lanes .level-is-machine c before after L l n) t;
+          holds = holds (framesAt c n .times) starts bits (machine c (laneOf L w) n) (in-lanes .level-is-machine c w L l n) t;
         }
 
     frame-is : (k : ℕ) → k < frameCount (a .plan .directory) n → sightIn a n L (getD (timesOf a n) k 0) ≡ accepted (frameIn a n L k)
     frame-is k m = sight-lane (getD (timesOf a n) k 0) ∙ rw (times-are, values-are) (ap accepted (own-sight (framesAt c n .times) starts bits k (omega (arith, m, count-is))))
 
-    count-lane : countIn a n L ≡ accepted (laneCount L c before after n)
+    count-lane : countIn a n L ≡ accepted (laneCount L c w n)
     count-lane =
         rw (times-are, values-are)
-        (count-answered (framesAt c n .times) (packedValues c before after n) L (sym (word-each c before after n)) frames-some frames-few (agreement .times-rise c n) l)
+        (count-answered (framesAt c n .times) (packedValues c w n) L (sym (word-each c w n)) frames-some frames-few (agreement .times-rise c n) l)
 
-    count-own : countIn a n L ≡ accepted (changes (traceAt c (laneOf L before after) n .values))
-    count-own = count-lane ∙ ap (λ (vs : List Bool). accepted (changes vs)) (in-lanes .own-values c before after L l n)
+    count-own : countIn a n L ≡ accepted (changes (traceAt c (laneOf L w) n .values))
+    count-own = count-lane ∙ ap (λ (vs : List Bool). accepted (changes vs)) (in-lanes .own-values c w L l n)
 
-    level-is : (t : ℕ) → levelIn a n L t ≡ accepted (machine c (laneOf L before after) n t)
-    level-is t = level-lane t ∙ ap accepted (in-lanes .level-is-machine c before after L l n t)
+    level-is : (t : ℕ) → levelIn a n L t ≡ accepted (machine c (laneOf L w) n t)
+    level-is t = level-lane t ∙ ap accepted (in-lanes .level-is-machine c w L l n t)
 
-    changes-are : countIn a n L ≡ accepted (changedTimes (machine c (laneOf L before after) n) lastTime)
+    changes-are : countIn a n L ≡ accepted (changedTimes (machine c (laneOf L w) n) lastTime)
     changes-are =
         count-lane
-        ∙ ap accepted (in-lanes .count-is-machine c before after L l n lastTime (λ t e. omega (arith, time-small c (circuit-within file (b .read)) n t h e)))
+        ∙ ap accepted (in-lanes .count-is-machine c w L l n lastTime (λ t e. omega (arith, time-small c (circuit-within (task .file) (b .read)) n t h e)))
 
     -- levels that differ are levels of the lane's own run that differ
     only-at : (t : ℕ) → levelIn a n L (suc t) ≢ levelIn a n L t → among (suc t) (timesOf a n) ≡ true
     only-at t d =
-        let s = laneOf L before after in
+        let s = laneOf L w in
         let same : levelAt c s n (suc t) ≡ levelAt c s n t → machine c s n (suc t) ≡ machine c s n t =
         λ e. sym (agreement .level-is-machine c s n (suc t)) ∙ e ∙ agreement .level-is-machine c s n t in
         rw times-are (agreement .changes-at-times c s n t (λ e. d (level-is (suc t) ∙ ap accepted (same e) ∙ sym (level-is t))))
 
-after-run : (file before after : List ℕ) (a : Areas) → LeftByRun file before after a → After file before after a
-after-run file before after a r =
-    let b = held file before after r in
+after-run : (task : Task) (w : WordLists) (a : Areas) → LeftByRun task w a → After task w a
+after-run task w a r =
+    let b = held task w r in
     record {
-      parts = net-parts file before after b;
-      count-is = count-is file before after b;
-      times-are = times-are file before after b;
-      values-are = values-are file before after b;
-      count-is-own = λ n L h l. count-own file before after b n h L l;
-      level-is-machine = λ n L t h l. level-is file before after b n h L l t;
-      sight-holds = λ n L t h l. sight-holds file before after b n h L l t;
-      frame-is-level = λ n L k h l m. frame-is file before after b n h L l k m;
-      count-is-machine = λ n L h l. changes-are file before after b n h L l;
-      changes-at-times = λ n L t h l d. only-at file before after b n h L l t d;
-      times-are-potential = λ n t h. rw (times-are file before after b n h);
+      parts = net-parts task w b;
+      count-is = count-is task w b;
+      times-are = times-are task w b;
+      values-are = values-are task w b;
+      count-is-own = λ n L h l. count-own task w b n h L l;
+      level-is-machine = λ n L t h l. level-is task w b n h L l t;
+      sight-holds = λ n L t h l. sight-holds task w b n h L l t;
+      frame-is-level = λ n L k h l m. frame-is task w b n h L l k m;
+      count-is-machine = λ n L h l. changes-are task w b n h L l;
+      changes-at-times = λ n L t h l d. only-at task w b n h L l t d;
+      times-are-potential = λ n t h. rw (times-are task w b n h);
     }
 
 -- ---- two runs
 
-module _ (file file′ before after before′ after′ : List ℕ) {a a′ : Areas} (L : ℕ) (l : L < lanes) (b : Held file before after a) (b′ : Held file′ before′ after′ a′) (same : circuitOf file ≡ circuitOf file′)
-    (p : AgreeIn L (circuitOf file .inputs) before before′) (q : AgreeIn L (circuitOf file .inputs) after after′) (n : ℕ) (h : n < netCount (circuitOf file)) where
+module _ (task task′ : Task) (w w′ : WordLists) {a a′ : Areas} (L : ℕ) (l : L < lanes) (b : Held task w a) (b′ : Held task′ w′ a′) (same : circuitIn task ≡ circuitIn task′)
+    (p : AgreeIn L (circuitIn task .inputs) w w′) (n : ℕ) (h : n < netsIn task) where
   same-sight : (t : ℕ) → sightIn a n L t ≡ sightIn a′ n L t
   same-sight t =
-      sight-lane file before after b n h L l t
-      ∙ ap (λ (levels : List Bool). accepted (sight (framesAt (circuitOf file) n .times) levels t)) (same-bits (circuitOf file) before after before′ after′ L p q n l)
-      ∙ ap (λ (c : Circuit). accepted (sight (framesAt c n .times) (map (lane L) (packedValues c before′ after′ n)) t)) same
-      ∙ sym (sight-lane file′ before′ after′ b′ n (rw same at h) L l t)
+      sight-lane task w b n h L l t
+      ∙ ap (λ (levels : List Bool). accepted (sight (framesAt (circuitIn task) n .times) levels t)) (same-bits (circuitIn task) w w′ L p n l)
+      ∙ ap (λ (c : Circuit). accepted (sight (framesAt c n .times) (map (lane L) (packedValues c w′ n)) t)) same
+      ∙ sym (sight-lane task′ w′ b′ n (rw same at h) L l t)
 
   same-count : countIn a n L ≡ countIn a′ n L
   same-count =
-      count-lane file before after b n h L l
-      ∙ ap accepted (in-lanes .same-count (circuitOf file) before after before′ after′ L l p q n)
-      ∙ ap (λ (c : Circuit). accepted (laneCount L c before′ after′ n)) same
-      ∙ sym (count-lane file′ before′ after′ b′ n (rw same at h) L l)
+      count-lane task w b n h L l
+      ∙ ap accepted (in-lanes .same-count (circuitIn task) w w′ L l p n)
+      ∙ ap (λ (c : Circuit). accepted (laneCount L c w′ n)) same
+      ∙ sym (count-lane task′ w′ b′ n (rw same at h) L l)
 
-runs-alike : (file file′ before after before′ after′ : List ℕ) (a a′ : Areas) (L : ℕ) → L < lanes → LeftByRun file before after a → LeftByRun file′ before′ after′ a′ → circuitOf file ≡ circuitOf file′
-    → AgreeIn L (circuitOf file .inputs) before before′ → AgreeIn L (circuitOf file .inputs) after after′ → Alike (circuitOf file) L a a′
-runs-alike file file′ before after before′ after′ a a′ L l r r′ same p q =
-    let sights = same-sight file file′ before after before′ after′ L l (held file before after r) (held file′ before′ after′ r′) same p q in
+runs-alike : (task task′ : Task) (w w′ : WordLists) (a a′ : Areas) (L : ℕ) → L < lanes → LeftByRun task w a → LeftByRun task′ w′ a′ → circuitIn task ≡ circuitIn task′
+    → AgreeIn L (circuitIn task .inputs) w w′ → Alike task L a a′
+runs-alike task task′ w w′ a a′ L l r r′ same p =
+    let sights = same-sight task task′ w w′ L l (held task w r) (held task′ w′ r′) same p in
     record {
       same-sight = λ n t h. sights n h t;
       same-level = λ n t h. ap levelPart (sights n h t);
-      same-count = same-count file file′ before after before′ after′ L l (held file before after r) (held file′ before′ after′ r′) same p q;
+      same-count = same-count task task′ w w′ L l (held task w r) (held task′ w′ r′) same p;
     }
 
 -- ---- what the words do not enter
@@ -195,23 +196,23 @@ unfolding allCleared
 cleared-plan a = refl
 
 -- the plan areas are left as Plan leaves them
-pub plan-left : (n : ℕ) (c : Circuit) (before after : List ℕ) (a : Areas) → runLeft n c before after a .plan ≡ leftBy n (laid (frames c) (a .plan)) (areas.allCleared (a .plan)) (a .plan)
-plan-left n c before after a = left-part _ _ a (λ (x : Areas). x .plan) n ∙ rw (filled-plan c before after a, cleared-plan a)
+pub plan-left : (n : ℕ) (task : Task) (w : WordLists) (a : Areas) → runLeft n task w a .plan ≡ leftBy n (laid (framesIn task) (a .plan)) (areas.allCleared (a .plan)) (a .plan)
+plan-left n task w a = left-part _ _ a (λ (x : Areas). x .plan) n ∙ rw (filled-plan task w a, cleared-plan a)
 
 -- and of the words the questions take the lengths
-words-alike : (file before after before′ after′ : List ℕ) (a : Areas) → length before ≡ length before′ → length after ≡ length after′
-    → (runOf file before after a .answer ≡ runOf file before′ after′ a .answer) × (runOf file before after a .left .plan ≡ runOf file before′ after′ a .left .plan)
+words-alike : (task : Task) (w w′ : WordLists) (a : Areas) → lengthsOf w ≡ lengthsOf w′
+    → (runOf task w a .answer ≡ runOf task w′ a .answer) × (runOf task w a .left .plan ≡ runOf task w′ a .left .plan)
 unfolding runOf
-words-alike file before after before′ after′ a p q =
-    (rw (p, q), plan-left _ (circuitOf file) before after a ∙ rw (p, q) (sym (plan-left _ (circuitOf file) before′ after′ a)))
+words-alike task w w′ a p =
+    (rw p, plan-left _ task w a ∙ rw p (sym (plan-left _ task w′ a)))
 
 -- what Run shares with Plan
-plan-alike : (file before after : List ℕ) (a : Areas) → length (a .values) ≡ valuesLength → wordsSuit (inputsOf file) (length before) (length after) ≡ true
-    → (runOf file before after a .answer ≡ planOf file (a .plan) .answer) × (runOf file before after a .left .plan ≡ planOf file (a .plan) .left)
+plan-alike : (task : Task) (w : WordLists) (a : Areas) → length (a .values) ≡ valuesLength → wordsSuit (inputsOf (task .file)) (lengthsOf w) ≡ true
+    → (runOf task w a .answer ≡ planOf task (a .plan) .answer) × (runOf task w a .left .plan ≡ planOf task (a .plan) .left)
 unfolding runOf planOf
-plan-alike file before after a v w =
-    let same = plan-first file a (length before) (length after) v w in
-    (rw same, plan-left _ (circuitOf file) before after a ∙ rw same)
+plan-alike task w a v suits =
+    let same = plan-first task (lengthsOf w) a v suits in
+    (rw same, plan-left _ task w a ∙ rw same)
 
 pub after-runs : AfterRun
 after-runs = record { after-run = after-run; runs-alike = runs-alike; words-alike = words-alike; plan-alike = plan-alike }

@@ -12,10 +12,10 @@ use Rattle.lists.specs.Outcome.{Outcome, outcome}
 use Rattle.lists.specs.Areas.{cleared, padded}
 use Rattle.lists.proofs.Ladders.{isNumber, numbered, leavesAlone, quiet, each-append, quiet-numbered, first, first-here, firstNo-append, ask-yes, ask-no, all-asked, unless-none, unless-some}
 use Rattle.lists.proofs.Leaving.{left-none, left-clear, left-quiet}
-use Rattle.method.specs.Frames.{frames}
-use Rattle.method.specs.Values.{allValues}
-use Rattle.circuit.specs.File.{inputsOf, circuitOf}
+use Rattle.method.specs.WordLists.{WordLists, Lengths, lengthsOf}
+use Rattle.circuit.specs.File.{inputsOf}
 use Rattle.circuit.specs.Questions as reader
+use Rattle.circuit.specs.Task.{Task, framesIn, allPackedIn}
 use Rattle.circuit.proofs.Gated.{questions-quiet, questions-numbered}
 use Rattle.method.specs.declared.Totals.{Totals}
 use Rattle.layout.specs.declared.Progress.{Progress}
@@ -34,22 +34,22 @@ use Rattle.engine.specs.Steps.{Asked}
 
 -- ---- the ladder
 
-module _ (file : List ℕ) (a : Areas) (before after : ℕ) where
+module _ (task : Task) (l : Lengths) (a : Areas) where
   -- none of 1 to 11 clears the areas
-  pub first-quiet : quiet (firstQuestions file a before after) ≡ true
+  pub first-quiet : quiet (firstQuestions task l a) ≡ true
   unfolding firstQuestions
-  first-quiet = each-append leavesAlone (reader.questions file) (ownQuestions (inputsOf file) a before after) (questions-quiet file) refl
+  first-quiet = each-append leavesAlone (reader.questions (task .file)) (ownQuestions (inputsOf (task .file)) l a) (questions-quiet (task .file)) refl
 
-  pub first-numbered : numbered (firstQuestions file a before after) ≡ true
-  first-numbered = quiet-numbered (firstQuestions file a before after) first-quiet
+  pub first-numbered : numbered (firstQuestions task l a) ≡ true
+  first-numbered = quiet-numbered (firstQuestions task l a) first-quiet
 
-  pub all-numbered : numbered (questions file a before after) ≡ true
+  pub all-numbered : numbered (questions task l a) ≡ true
   unfolding questions
-  all-numbered = each-append isNumber (firstQuestions file a before after) (lastQuestion file) first-numbered refl
+  all-numbered = each-append isNumber (firstQuestions task l a) (lastQuestion task) first-numbered refl
 
-  pub joined : firstNo (questions file a before after) ≡ first (firstNo (firstQuestions file a before after)) (firstNo (lastQuestion file))
+  pub joined : firstNo (questions task l a) ≡ first (firstNo (firstQuestions task l a)) (firstNo (lastQuestion task))
   unfolding questions
-  joined = firstNo-append (firstQuestions file a before after) (lastQuestion file) first-numbered
+  joined = firstNo-append (firstQuestions task l a) (lastQuestion task) first-numbered
 
 -- where the values and the word lists have their lengths, the first "no" is Plan's
 own-alike : (suits : Bool) {values words : Bool} → values ≡ true → words ≡ true → (qs : List Question) → firstNo ((suits && values orElse 10) ∷ (words orElse 11) ∷ qs) ≡ firstNo ((suits orElse 10) ∷ qs)
@@ -57,70 +57,70 @@ unfolding firstNo
 own-alike true v w qs = rw (v, w)
 own-alike false v w qs = refl
 
-pub plan-first : (file : List ℕ) (a : Areas) (before after : ℕ) → length (a .values) ≡ valuesLength → wordsSuit (inputsOf file) before after ≡ true
-    → firstNo (questions file a before after) ≡ firstNo (plan.questions file (a .plan))
+pub plan-first : (task : Task) (l : Lengths) (a : Areas) → length (a .values) ≡ valuesLength → wordsSuit (inputsOf (task .file)) l ≡ true
+    → firstNo (questions task l a) ≡ firstNo (plan.questions task (a .plan))
 unfolding questions firstQuestions areasSuit plan.questions
-plan-first file a before after v w =
-    ap firstNo (append-assoc (reader.questions file) (ownQuestions (inputsOf file) a before after) (lastQuestion file))
-    ∙ firstNo-append (reader.questions file) _ (questions-numbered file)
-    ∙ ap (first (firstNo (reader.questions file))) (own-alike (plan.areasSuit (a .plan)) (eq-eqb _ _ v) w (lastQuestion file))
-    ∙ sym (firstNo-append (reader.questions file) (plan.ownQuestions file (a .plan)) (questions-numbered file))
+plan-first task l a v w =
+    ap firstNo (append-assoc (reader.questions (task .file)) (ownQuestions (inputsOf (task .file)) l a) (lastQuestion task))
+    ∙ firstNo-append (reader.questions (task .file)) _ (questions-numbered (task .file))
+    ∙ ap (first (firstNo (reader.questions (task .file)))) (own-alike (plan.areasSuit (a .plan)) (eq-eqb _ _ v) w (lastQuestion task))
+    ∙ sym (firstNo-append (reader.questions (task .file)) (plan.ownQuestions task (a .plan)) (questions-numbered (task .file)))
 
-module _ (file before after : List ℕ) (a : Areas) where
+module _ (task : Task) (w : WordLists) (a : Areas) where
   -- what the first "no" leaves
   abbrev left : ℕ → Areas
-  left n = runLeft n (circuitOf file) before after a
+  left n = runLeft n task w a
 
   -- Run's two parts
-  pub run-is : {x : Answer Totals} {b : Areas} → outcome x b ≡ runOf file before after a
-      → (x ≡ unless (firstNo (questions file a (length before) (length after))) (totalsOf (frames (circuitOf file))))
-      × (b ≡ left (firstNo (questions file a (length before) (length after))))
+  pub run-is : {x : Answer Totals} {b : Areas} → outcome x b ≡ runOf task w a
+      → (x ≡ unless (firstNo (questions task (lengthsOf w) a)) (totalsOf (framesIn task)))
+      × (b ≡ left (firstNo (questions task (lengthsOf w) a)))
   unfolding runOf
   run-is e = (ap (λ (o : Outcome Totals Areas). o .answer) e, ap (λ (o : Outcome Totals Areas). o .left) e)
 
-  ran : {n : ℕ} → firstNo (questions file a (length before) (length after)) ≡ n
-      → runOf file before after a ≡ outcome (unless n (totalsOf (frames (circuitOf file)))) (left n)
+  ran : {n : ℕ} → firstNo (questions task (lengthsOf w) a) ≡ n
+      → runOf task w a ≡ outcome (unless n (totalsOf (framesIn task))) (left n)
   unfolding runOf
   ran e = rw e
 
-  refusal : {n : ℕ} → firstNo (questions file a (length before) (length after)) ≡ n → (n ≡ 0 → ⊥) → {b : Areas} → b ≡ left n
-      → outcome (onPaper (Q.Refused n)) b ≡ runOf file before after a
+  refusal : {n : ℕ} → firstNo (questions task (lengthsOf w) a) ≡ n → (n ≡ 0 → ⊥) → {b : Areas} → b ≡ left n
+      → outcome (onPaper (Q.Refused n)) b ≡ runOf task w a
   unfolding onPaper
-  refusal {n} e h l = sym (ran e ∙ rw (unless-some n (totalsOf (frames (circuitOf file))) h, ← l))
+  refusal {n} e h l = sym (ran e ∙ rw (unless-some n (totalsOf (framesIn task)) h, ← l))
 
   -- 1 to 11: nothing is written
-  pub run-no : {n : ℕ} → n ≡ firstNo (firstQuestions file a (length before) (length after)) → (n ≡ 0 → ⊥) → outcome (onPaper (Q.Refused n)) a ≡ runOf file before after a
+  pub run-no : {n : ℕ} → n ≡ firstNo (firstQuestions task (lengthsOf w) a) → (n ≡ 0 → ⊥) → outcome (onPaper (Q.Refused n)) a ≡ runOf task w a
   run-no {n} e h =
-      refusal (joined file a (length before) (length after) ∙ rw (← e) (first-here n _ h)) h
-      (sym (left-quiet _ _ a (firstQuestions file a (length before) (length after)) (first-quiet file a (length before) (length after)) e h))
+      refusal (joined task (lengthsOf w) a ∙ rw (← e) (first-here n _ h)) h
+      (sym (left-quiet _ _ a (firstQuestions task (lengthsOf w) a) (first-quiet task (lengthsOf w) a) e h))
 
   -- 13
-  module _ (h : Asked file a (length before) (length after)) where
-    at-last : firstNo (questions file a (length before) (length after)) ≡ firstNo (lastQuestion file)
-    at-last = joined file a (length before) (length after) ∙ rw (h .none)
+  module _ (h : Asked task (lengthsOf w) a) where
+    at-last : firstNo (questions task (lengthsOf w) a) ≡ firstNo (lastQuestion task)
+    at-last = joined task (lengthsOf w) a ∙ rw (h .none)
 
-    run-13 : fits (frames (circuitOf file)) ≡ false → outcome (onPaper (Q.Refused 13)) (allCleared a) ≡ runOf file before after a
-    run-13 n = refusal (at-last ∙ ask-no (fits (frames (circuitOf file))) 13 [] n) (λ z. omega arith) (sym (left-clear _ _ a 13 (λ z. omega arith) refl))
+    run-13 : fits (framesIn task) ≡ false → outcome (onPaper (Q.Refused 13)) (allCleared a) ≡ runOf task w a
+    run-13 n = refusal (at-last ∙ ask-no (fits (framesIn task)) 13 [] n) (λ z. omega arith) (sym (left-clear _ _ a 13 (λ z. omega arith) refl))
 
-    run-yes : fits (frames (circuitOf file)) ≡ true → outcome (onPaper (Q.Planned (totalsOf (frames (circuitOf file))))) (filled (circuitOf file) before after a) ≡ runOf file before after a
+    run-yes : fits (framesIn task) ≡ true → outcome (onPaper (Q.Planned (totalsOf (framesIn task)))) (filled task w a) ≡ runOf task w a
     unfolding onPaper
     run-yes y =
-        let m : firstNo (questions file a (length before) (length after)) ≡ 0 = at-last ∙ ask-yes (fits (frames (circuitOf file))) 13 [] y ∙ all-asked in
-        sym (ran m ∙ rw (unless-none 0 (totalsOf (frames (circuitOf file))) refl, left-none (filled (circuitOf file) before after a) (allCleared a) a))
+        let m : firstNo (questions task (lengthsOf w) a) ≡ 0 = at-last ∙ ask-yes (fits (framesIn task)) 13 [] y ∙ all-asked in
+        sym (ran m ∙ rw (unless-none 0 (totalsOf (framesIn task)) refl, left-none (filled task w a) (allCleared a) a))
 
 -- ---- filled, and then evaluated or cleared
 
-module _ (file before after : List ℕ) {d t i f v : List ℕ} (h : Asked file (areas d t i f v) (length before) (length after)) {d′ t′ i′ f′ : List ℕ} {r : Progress}
-    (e : Filled file (layout.areas d t i f) (layout.areas d′ t′ i′ f′) r) where
-  pub simulate-13 : r ≡ P.TooMany → {v′ : List ℕ} → v′ ≡ cleared v → outcome (onPaper (Q.Refused 13)) (areas d′ t′ i′ f′ v′) ≡ runOf file before after (areas d t i f v)
+module _ (task : Task) (w : WordLists) {d t i f v : List ℕ} (h : Asked task (lengthsOf w) (areas d t i f v)) {d′ t′ i′ f′ : List ℕ} {r : Progress}
+    (e : Filled task (layout.areas d t i f) (layout.areas d′ t′ i′ f′) r) where
+  pub simulate-13 : r ≡ P.TooMany → {v′ : List ℕ} → v′ ≡ cleared v → outcome (onPaper (Q.Refused 13)) (areas d′ t′ i′ f′ v′) ≡ runOf task w (areas d t i f v)
   unfolding allCleared
   simulate-13 q z =
       ap₂ (λ (x : layout.Areas) (y : List ℕ). outcome (onPaper (Q.Refused 13)) (record { plan = x; values = y })) (e .emptied q) z
-      ∙ run-13 file before after (areas d t i f v) h (e .stopped q)
+      ∙ run-13 task w (areas d t i f v) h (e .stopped q)
 
-  pub simulate-yes : {totals : Totals} → r ≡ P.Planned totals → {v′ : List ℕ} → v′ ≡ padded (length v) (allValues (circuitOf file) before after)
-      → outcome (onPaper (Q.Planned totals)) (areas d′ t′ i′ f′ v′) ≡ runOf file before after (areas d t i f v)
+  pub simulate-yes : {totals : Totals} → r ≡ P.Planned totals → {v′ : List ℕ} → v′ ≡ padded (length v) (allPackedIn task w)
+      → outcome (onPaper (Q.Planned totals)) (areas d′ t′ i′ f′ v′) ≡ runOf task w (areas d t i f v)
   unfolding filled
-  simulate-yes {totals} q w =
-      ap₂ (λ (x : layout.Areas) (y : List ℕ). outcome (onPaper (Q.Planned totals)) (record { plan = x; values = y })) (e .filled totals q) w
-      ∙ rw (e .totals totals q) (run-yes file before after (areas d t i f v) h (e .fit totals q))
+  simulate-yes {totals} q words =
+      ap₂ (λ (x : layout.Areas) (y : List ℕ). outcome (onPaper (Q.Planned totals)) (record { plan = x; values = y })) (e .filled totals q) words
+      ∙ rw (e .totals totals q) (run-yes task w (areas d t i f v) h (e .fit totals q))

@@ -5,13 +5,13 @@ use mathlib.Core.Path.{_≡_, sym, _∙_}
 use mathlib.Core.List.{List}
 use native.Mathlib.Omega.{arith}
 use lib.ListN.{length}
-use Rattle.method.specs.Frames.{frames}
-use Rattle.circuit.specs.File.{circuitOf}
+use Rattle.method.specs.WordLists.{Lengths}
 use Rattle.circuit.proofs.Parts.{few}
 use Rattle.method.specs.declared.Totals.{Totals}
+use Rattle.circuit.specs.Task.{Task, framesIn}
 use Rattle.layout.specs.declared.Progress.{Progress}
 use Rattle.layout.specs.declared.Progress.the-variants as P
-use Rattle.method.specs.Areas.{Areas, areas}
+use Rattle.method.specs.Areas.{areas}
 use Rattle.method.specs.Layout.{allTimes, laid}
 use Rattle.method.specs.Sums.{totalsOf}
 use Rattle.layout.specs.Steps.{Given, Filled}
@@ -22,20 +22,20 @@ use Rattle.engine.specs.Areas as engine
 use Rattle.engine.specs.Steps.{Asked}
 use Rattle.engine.proofs.Asking.{passed}
 
-module _ (file : List ℕ) {a : engine.Areas} {before after : ℕ} (h : Asked file a before after) where
-  pub given : Given file (a .plan)
-  given = given-all file (a .plan) (h .read) (passed file a before after (h .none) .suits)
+module _ (task : Task) {l : Lengths} {a : engine.Areas} (h : Asked task l a) where
+  pub given : Given task (a .plan)
+  given = given-all task (a .plan) (h .read) (passed task l a (h .none) .suits)
 
-  module _ {d t i f : List ℕ} {r : Progress} (e : Filled file (a .plan) (areas d t i f) r) {totals : Totals} (q : r ≡ P.Planned totals) where
-    plan-frames : totals .frames ≡ length (allTimes (frames (circuitOf file)))
+  module _ {d t i f : List ℕ} {r : Progress} (e : Filled task (a .plan) (areas d t i f) r) {totals : Totals} (q : r ≡ P.Planned totals) where
+    plan-frames : totals .frames ≡ length (allTimes (framesIn task))
     unfolding totalsOf
     plan-frames = rw (e .totals totals q)
 
     -- what evaluating asks: the areas are as long as they were
-    pub planned : length d ≡ length (a .plan .directory) → length t ≡ length (a .plan .times) → length i ≡ length (a .plan .inertial) → length f ≡ length (a .plan .fanins) → Planned file d i f
+    pub planned : length d ≡ length (a .plan .directory) → length t ≡ length (a .plan .times) → length i ≡ length (a .plan .inertial) → length f ≡ length (a .plan .fanins) → Planned task d i f
     unfolding laid
     planned ld lt li lf =
-        let room = plan-room file (a .plan) (h .read) (passed file a before after (h .none) .suits) (e .fit totals q) in
+        let room = plan-room task (a .plan) (h .read) (passed task l a (h .none) .suits) (e .fit totals q) in
         record {
           read = h .read;
           times = t;
@@ -46,13 +46,13 @@ module _ (file : List ℕ) {a : engine.Areas} {before after : ℕ} (h : Asked fi
         }
 
     -- the values have a word for each frame
-    pub driven : Driven file (a .values) before after (totals .frames)
+    pub driven : Driven task l (a .values) (totals .frames)
     driven =
-        let y = passed file a before after (h .none) in
+        let y = passed task l a (h .none) in
         record {
           before-each = y .before-each;
           after-each = y .after-each ∙ sym (y .before-each);
-          room = omega (arith, few file (h .read) .1, y .before-each, y .values);
-          words = record { words = omega (arith, fits-total (frames (circuitOf file)) (e .fit totals q), y .values) };
+          room = omega (arith, few (task .file) (h .read) .1, y .before-each, y .values);
+          words = record { words = omega (arith, fits-total (framesIn task) (e .fit totals q), y .values) };
           total-is = plan-frames;
         }

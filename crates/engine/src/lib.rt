@@ -1,7 +1,8 @@
 // Run: a circuit simulated for 64 pattern pairs at once.
 ghost use mathlib.Core.Path.{_≡_};
-ghost use lib.ListN.{length};
 ghost use Rattle.lists.specs.Outcome.{outcome};
+ghost use Rattle.method.specs.WordLists.{wordLists, lengthsOf};
+ghost use Rattle.circuit.specs.Task.{taskOf};
 ghost use Rattle.circuit.specs.Questions as reader;
 ghost use Rattle.planner.specs.Plan.{onPaper};
 ghost use Rattle.engine.specs.Areas.{areas};
@@ -27,7 +28,7 @@ pub fn run(
     before: &[u64],
     after: &[u64],
 ) -> Planning
-    ensures { λ r. ⌜ outcome (onPaper r) (areas (now (directory .exit)) (now (times .exit)) (now (inertial .exit)) (now (fanins .exit)) (now (values .exit))) ≡ runOf (now (file .entry)) (now (before .entry)) (now (after .entry)) (areas (now (directory .entry)) (now (times .entry)) (now (inertial .entry)) (now (fanins .entry)) (now (values .entry))) ⌝ }
+    ensures { λ r. ⌜ outcome (onPaper r) (areas (now (directory .exit)) (now (times .exit)) (now (inertial .exit)) (now (fanins .exit)) (now (values .exit))) ≡ runOf (taskOf (now (file .entry))) (wordLists (now (before .entry)) (now (after .entry))) (areas (now (directory .entry)) (now (times .entry)) (now (inertial .entry)) (now (fanins .entry)) (now (values .entry))) ⌝ }
 {
     match questions(
         file,
@@ -66,7 +67,7 @@ pub fn questions(
     before: &[u64],
     after: &[u64],
 ) -> Reading
-    ensures { λ r. ⌜ reader.onPaper r ≡ questionsOf (now (file .entry)) (areas (now (directory .entry)) (now (times .entry)) (now (inertial .entry)) (now (fanins .entry)) (now (values .entry))) (length (now (before .entry))) (length (now (after .entry))) ⌝ }
+    ensures { λ r. ⌜ reader.onPaper r ≡ questionsOf (taskOf (now (file .entry))) (lengthsOf (wordLists (now (before .entry)) (now (after .entry)))) (areas (now (directory .entry)) (now (times .entry)) (now (inertial .entry)) (now (fanins .entry)) (now (values .entry))) ⌝ }
 {
     match circuit::read(file) {
         Reading::Refused(n) => Reading::Refused(n),

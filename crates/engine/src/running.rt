@@ -1,9 +1,10 @@
 // Questions 10 and 11, and a run of a circuit that has passed them.
 ghost use mathlib.Core.Path.{_≡_};
-ghost use lib.ListN.{length};
 ghost use Rattle.lists.specs.Ladder.{firstNo};
 ghost use Rattle.lists.specs.Outcome.{outcome};
+ghost use Rattle.method.specs.WordLists.{wordLists, lengthsOf};
 ghost use Rattle.circuit.specs.File.{inputsOf, gatesOf};
+ghost use Rattle.circuit.specs.Task.{taskOf};
 ghost use Rattle.planner.specs.Plan.{onPaper};
 ghost use Rattle.engine.specs.Areas.{areas};
 ghost use Rattle.engine.specs.Questions.{ownQuestions};
@@ -25,7 +26,7 @@ pub(crate) fn own_fault(
     before: &[u64],
     after: &[u64],
 ) -> u8
-    ensures { λ r. ⌜ r ≡ firstNo (ownQuestions inputs (areas (now (directory .entry)) (now (times .entry)) (now (inertial .entry)) (now (fanins .entry)) (now (values .entry))) (length (now (before .entry))) (length (now (after .entry)))) ⌝ }
+    ensures { λ r. ⌜ r ≡ firstNo (ownQuestions inputs (lengthsOf (wordLists (now (before .entry)) (now (after .entry)))) (areas (now (directory .entry)) (now (times .entry)) (now (inertial .entry)) (now (fanins .entry)) (now (values .entry)))) ⌝ }
 {
     if !planner::areas_suit(directory, times, inertial, fanins) {
         return 10;
@@ -56,8 +57,8 @@ pub(crate) fn simulate(
     before: &[u64],
     after: &[u64],
 ) -> Planning
-    requires { ⌜ Asked (now file) (areas (now directory) (now times) (now inertial) (now fanins) (now values)) (length (now before)) (length (now after)) × (inputs ≡ inputsOf (now file)) × (gates ≡ gatesOf (now file)) ⌝ }
-    ensures { λ r. ⌜ outcome (onPaper r) (areas (now (directory .exit)) (now (times .exit)) (now (inertial .exit)) (now (fanins .exit)) (now (values .exit))) ≡ runOf (now (file .entry)) (now (before .entry)) (now (after .entry)) (areas (now (directory .entry)) (now (times .entry)) (now (inertial .entry)) (now (fanins .entry)) (now (values .entry))) ⌝ }
+    requires { ⌜ Asked (taskOf (now file)) (lengthsOf (wordLists (now before) (now after))) (areas (now directory) (now times) (now inertial) (now fanins) (now values)) × (inputs ≡ inputsOf (now file)) × (gates ≡ gatesOf (now file)) ⌝ }
+    ensures { λ r. ⌜ outcome (onPaper r) (areas (now (directory .exit)) (now (times .exit)) (now (inertial .exit)) (now (fanins .exit)) (now (values .exit))) ≡ runOf (taskOf (now (file .entry))) (wordLists (now (before .entry)) (now (after .entry))) (areas (now (directory .entry)) (now (times .entry)) (now (inertial .entry)) (now (fanins .entry)) (now (values .entry))) ⌝ }
 {
     match layout::fill(file, inputs, gates, directory, times, inertial, fanins) {
         Progress::TooMany => {

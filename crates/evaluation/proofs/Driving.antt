@@ -12,40 +12,41 @@ use Rattle.lists.proofs.Choices.{less, same, more, tri}
 use Rattle.lists.proofs.Tabled.{tabulate-snoc}
 use Rattle.lists.proofs.Flat.{flatten-append}
 use Rattle.method.specs.Words.{lanes, lane}
+use Rattle.method.specs.WordLists.{WordLists}
 use Rattle.method.proofs.Bits.{pack-is}
 use Rattle.evaluation.specs.Steps.{repacked, inputWords}
 
 -- ---- the inputs
 
 -- a word of 64 lanes is packed from its own bits
-unpacked : (w : ℕ) → w < 2 ^ lanes → w ≡ repacked w
-unpacked w h = pack-is lanes w (λ (L : ℕ). lane L w) h (λ L l. refl)
+unpacked : (x : ℕ) → x < 2 ^ lanes → x ≡ repacked x
+unpacked x h = pack-is lanes x (λ (L : ℕ). lane L x) h (λ L l. refl)
 
-module _ (before after : List ℕ) where
-  pub inputs-none : (v : List ℕ) → take (2 * 0) v ≡ inputWords before after 0
+module _ (w : WordLists) where
+  pub inputs-none : (v : List ℕ) → take (2 * 0) v ≡ inputWords w 0
   unfolding inputWords tabulateFrom flatten
   inputs-none v = refl
 
-  one-more : (i : ℕ) → inputWords before after (i + 1) ≡ inputWords before after i ++ (repacked (getD before i 0) ∷ repacked (getD after i 0) ∷ [])
+  one-more : (i : ℕ) → inputWords w (i + 1) ≡ inputWords w i ++ (repacked (getD (w .before) i 0) ∷ repacked (getD (w .after) i 0) ∷ [])
   unfolding inputWords flatten
   one-more i =
-      let pair : ℕ → List ℕ = λ (i : ℕ). repacked (getD before i 0) ∷ repacked (getD after i 0) ∷ [] in
+      let pair : ℕ → List ℕ = λ (i : ℕ). repacked (getD (w .before) i 0) ∷ repacked (getD (w .after) i 0) ∷ [] in
       rw (add-one i, tabulate-snoc i pair) (flatten-append (tabulate i pair) (pair i ∷ []) ∙ rw (append-nil (pair i)))
 
-  pub inputs-more : (v : List ℕ) (i : ℕ) → 2 * i + 1 < length v → getD before i 0 < 2 ^ lanes → getD after i 0 < 2 ^ lanes → take (2 * i) v ≡ inputWords before after i
-      → take (2 * (i + 1)) (set (set v (2 * i) (getD before i 0)) (2 * i + 1) (getD after i 0)) ≡ inputWords before after (i + 1)
+  pub inputs-more : (v : List ℕ) (i : ℕ) → 2 * i + 1 < length v → getD (w .before) i 0 < 2 ^ lanes → getD (w .after) i 0 < 2 ^ lanes → take (2 * i) v ≡ inputWords w i
+      → take (2 * (i + 1)) (set (set v (2 * i) (getD (w .before) i 0)) (2 * i + 1) (getD (w .after) i 0)) ≡ inputWords w (i + 1)
   inputs-more v i h b a e =
-      let v′ = set v (2 * i) (getD before i 0) in
+      let v′ = set v (2 * i) (getD (w .before) i 0) in
       rw (
         let q : 2 * (i + 1) ≡ suc (suc (2 * i)) = omega arith in q,
         let q : 2 * i + 1 ≡ suc (2 * i) = omega arith in q,
-        take-suc-set v′ (suc (2 * i)) (getD after i 0) (rw (length-set v (2 * i) (getD before i 0)) (omega arith)),
-        take-suc-set v (2 * i) (getD before i 0) (omega arith),
+        take-suc-set v′ (suc (2 * i)) (getD (w .after) i 0) (rw (length-set v (2 * i) (getD (w .before) i 0)) (omega arith)),
+        take-suc-set v (2 * i) (getD (w .before) i 0) (omega arith),
         e,
-        append-assoc (inputWords before after i) (getD before i 0 ∷ []) (getD after i 0 ∷ []),
+        append-assoc (inputWords w i) (getD (w .before) i 0 ∷ []) (getD (w .after) i 0 ∷ []),
         one-more i,
-        ← unpacked (getD before i 0) b,
-        ← unpacked (getD after i 0) a,
+        ← unpacked (getD (w .before) i 0) b,
+        ← unpacked (getD (w .after) i 0) a,
       )
 
 -- ---- the bases

@@ -28,8 +28,10 @@ use Rattle.method.proofs.Netwise.{net-by-net, indices-each}
 use Rattle.method.proofs.Lasting.{starts-counted}
 use Rattle.method.proofs.Planned.{times-start}
 use Rattle.method.proofs.Bits.{pack-lane, pack-ext}
+use Rattle.method.specs.WordLists.{WordLists}
 use Rattle.circuit.specs.declared.GateRecord.{GateRecord}
-use Rattle.circuit.specs.File.{inputsOf, gatesOf, faninAt, recordOf, circuitOf}
+use Rattle.circuit.specs.File.{inputsOf, gatesOf, faninAt, recordOf}
+use Rattle.circuit.specs.Task.{Task, circuitIn, framesIn}
 use Rattle.circuit.proofs.Accepted as reader
 use Rattle.circuit.proofs.Faithful.{gate-within}
 use Rattle.circuit.proofs.Bounded.{no-feedback}
@@ -47,29 +49,29 @@ entry-fits k n m e h l = let q : suc k * m ≤ n * m = mul-le-mul-right m h in o
 
 -- ---- gate j of an accepted file, in the areas of its plan
 
-module _ {file d i f : List ℕ} (p : Planned file d i f) where
+module _ {task : Task} {d i f : List ℕ} (p : Planned task d i f) where
   abbrev c : Circuit
-  c = circuitOf file
+  c = circuitIn task
 
   abbrev fs : List Frames
   fs = frames c
 
   every-gate : EveryGate c
-  every-gate = net-by-net c .1 (no-feedback c (circuit-within file (p .read)))
+  every-gate = net-by-net c .1 (no-feedback c (circuit-within (task .file) (p .read)))
 
-  net-total : length fs ≡ c .inputs + gatesOf file
-  net-total = nets-count c ∙ ap (λ (n : ℕ). c .inputs + n) (gates-length file)
+  net-total : length fs ≡ c .inputs + gatesOf (task .file)
+  net-total = nets-count c ∙ ap (λ (n : ℕ). c .inputs + n) (gates-length (task .file))
 
-  module _ (j : ℕ) (h : j < gatesOf file) where
+  module _ (j : ℕ) (h : j < gatesOf (task .file)) where
     abbrev net : ℕ
     net = c .inputs + j
 
     abbrev g : GateRecord
-    g = recordOf file j
+    g = recordOf (task .file) j
 
     -- its fan-ins, and its times
     abbrev fanin : ℕ → ℕ
-    fanin e = faninAt file (g .list) e
+    fanin e = faninAt (task .file) (g .list) e
 
     abbrev ts : List ℕ
     ts = framesAt c net .times
@@ -82,22 +84,22 @@ module _ {file d i f : List ℕ} (p : Planned file d i f) where
     there = rw net-total (omega arith)
 
     listed : j < length (c .gates)
-    listed = rw (gates-length file) h
+    listed = rw (gates-length (task .file)) h
 
-    own : RecordWithin file (inputsOf file + j) g
-    own = within file (p .read) j h
+    own : RecordWithin (task .file) (inputsOf (task .file) + j) g
+    own = within (task .file) (p .read) j h
 
     fanin-below : (e : ℕ) → e < g .entries → fanin e < net
-    fanin-below e l = rw (circuit-inputs file) (own .below e l)
+    fanin-below e l = rw (circuit-inputs (task .file)) (own .below e l)
 
-    gate-is : gateAt c j ≡ gateFrom file g
-    gate-is = gate-read file (p .read) j h
+    gate-is : gateAt c j ≡ gateFrom (task .file) g
+    gate-is = gate-read (task .file) (p .read) j h
 
     taken : takes (g .kind) (g .entries) ≡ true
     taken =
-        let w = gate-within file j (reader.passed file _ (p .read) .gate j h) in
-        let e : takes (g .kind) (length (tabulate (g .entries) (faninAt file (g .list)))) ≡ true = rw (gate-from file j) at (w .entries) in
-        rw (from-length (g .entries) 0 (faninAt file (g .list))) at e
+        let own-within = gate-within (task .file) j (reader.passed (task .file) _ (p .read) .gate j h) in
+        let e : takes (g .kind) (length (tabulate (g .entries) (faninAt (task .file) (g .list)))) ≡ true = rw (gate-from (task .file) j) at (own-within .entries) in
+        rw (from-length (g .entries) 0 (faninAt (task .file) (g .list))) at e
 
     -- a row of its fan-in indices
     rowOf : ℕ → List ℕ
@@ -113,7 +115,7 @@ module _ {file d i f : List ℕ} (p : Planned file d i f) where
         every-gate .gate-rows j listed
         ∙ ap (λ (r : ℕ → List ℕ). map r ts) (fun-ext (λ t.
         rw gate-is
-        (ap (map (λ (ss : List ℕ). faninIndex (g .delay) ss t)) (map-from (λ (m : ℕ). framesAt c m .times) (g .entries) 0 (faninAt file (g .list)))
+        (ap (map (λ (ss : List ℕ). faninIndex (g .delay) ss t)) (map-from (λ (m : ℕ). framesAt c m .times) (g .entries) 0 (faninAt (task .file) (g .list)))
         ∙ map-from (λ (ss : List ℕ). faninIndex (g .delay) ss t) (g .entries) 0 (λ (e : ℕ). framesAt c (fanin e) .times))))
 
     rows-length : length (flatten (framesAt c net .rows)) ≡ length ts * g .entries
@@ -134,7 +136,7 @@ module _ {file d i f : List ℕ} (p : Planned file d i f) where
 
     -- where they point to
     target-at : (k e : ℕ) → k < length ts → e < g .entries
-        → target (basesOf file d g) f (rowsAt + k * g .entries) e ≡ length (allTimes (take (fanin e) fs)) + faninIndex (g .delay) (framesAt c (fanin e) .times) (getD ts k 0)
+        → target (basesOf (task .file) d g) f (rowsAt + k * g .entries) e ≡ length (allTimes (take (fanin e) fs)) + faninIndex (g .delay) (framesAt c (fanin e) .times) (getD ts k 0)
     target-at k e l m = ap₂ _+_ (tabulate-at (g .entries) _ 0 e m ∙ fanin-first e m) (entry-at k e l m)
 
     index-fits : (k e : ℕ) → faninIndex (g .delay) (framesAt c (fanin e) .times) (getD ts k 0) < length (framesAt c (fanin e) .times)
@@ -147,7 +149,7 @@ module _ {file d i f : List ℕ} (p : Planned file d i f) where
     own-count = pair-count fs (p .is) net there
 
     inertial-is : partOf d i net ≡ framesAt c net .inertial
-    inertial-is = inertial-part fs (p .is) net there (indices-each c (no-feedback c (circuit-within file (p .read))))
+    inertial-is = inertial-part fs (p .is) net there (indices-each c (no-feedback c (circuit-within (task .file) (p .read))))
 
     -- ---- it can be evaluated
 
@@ -156,7 +158,7 @@ module _ {file d i f : List ℕ} (p : Planned file d i f) where
     still z k =
         rw (inertial-is, every-gate .gate-inertial j listed, gate-is, z) (starts-counted ts (times-start c net) k)
 
-    gate-ready : {size : ℕ} → length (allTimes fs) ≤ size → Ready file d i f size net g rowsAt
+    gate-ready : {size : ℕ} → length (allTimes fs) ≤ size → Ready (task .file) d i f size net g rowsAt
     gate-ready {size} s =
         record {
           pair = omega (arith, there, p .pairs);
@@ -176,16 +178,16 @@ module _ {file d i f : List ℕ} (p : Planned file d i f) where
 
     -- ---- its words, where the nets before it have theirs
 
-    module _ (before after v : List ℕ) (holds : Holds file before after net v) where
+    module _ (w : WordLists) (v : List ℕ) (holds : Holds task w net v) where
       abbrev words : ℕ → List ℕ
-      words = packedValues c before after
+      words = packedValues c w
 
       -- the word of an earlier net's frame
-      word-at : (m k : ℕ) → m < net → k < length (framesAt c m .times) → getD v (length (allTimes (take m fs)) + k) 0 ≡ packedWord c before after m k
+      word-at : (m k : ℕ) → m < net → k < length (framesAt c m .times) → getD v (length (allTimes (take m fs)) + k) 0 ≡ packedWord c w m k
       unfolding packedValues
       word-at m k l b =
-          let size : length (words m) ≡ length (framesAt c m .times) = word-each c before after m in
-          let pre : length (flatten (tabulate m words)) ≡ length (allTimes (take m fs)) = words-before c before after m (omega (arith, there)) in
+          let size : length (words m) ≡ length (framesAt c m .times) = word-each c w m in
+          let pre : length (flatten (tabulate m words)) ≡ length (allTimes (take m fs)) = words-before c w m (omega (arith, there)) in
           let low : length (allTimes (take m fs)) + k < length (allTimes (take net fs)) = omega (arith, frames-below fs m net l (omega (arith, there))) in
           sym (getD-take (length (allTimes (take net fs))) v (length (allTimes (take m fs)) + k) 0 low)
           ∙ ap (λ (l : List ℕ). getD l (length (allTimes (take m fs)) + k) 0) (holds .is)
@@ -195,11 +197,11 @@ module _ {file d i f : List ℕ} (p : Planned file d i f) where
 
       module _ (L : ℕ) (b : L < lanes) where
         abbrev s : Stimuli
-        s = laneOf L before after
+        s = laneOf L w
 
         -- the bit that an entry of a fan-in row points to
         source-lane : (k e : ℕ) → k < length ts → e < g .entries
-            → lane L (sourceAt v (basesOf file d g) f (rowsAt + k * g .entries) e) ≡ getD (traceAt c s (fanin e) .values) (faninIndex (g .delay) (framesAt c (fanin e) .times) (getD ts k 0)) false
+            → lane L (sourceAt v (basesOf (task .file) d g) f (rowsAt + k * g .entries) e) ≡ getD (traceAt c s (fanin e) .values) (faninIndex (g .delay) (framesAt c (fanin e) .times) (getD ts k 0)) false
         unfolding packedWord
         source-lane k e l m =
             rw (target-at k e l m)
@@ -207,40 +209,40 @@ module _ {file d i f : List ℕ} (p : Planned file d i f) where
             ∙ pack-lane lanes _ L b)
 
         -- so a raw word has the lane's raw value
-        raw-lane : (k : ℕ) → k < length ts → lane L (gateWord (g .kind) (sources v (basesOf file d g) f (rowsAt + k * g .entries) (g .entries))) ≡ rawOf c j s (getD ts k 0)
+        raw-lane : (k : ℕ) → k < length ts → lane L (gateWord (g .kind) (sources v (basesOf (task .file) d g) f (rowsAt + k * g .entries) (g .entries))) ≡ rawOf c j s (getD ts k 0)
         unfolding gateWord
         raw-lane k l =
             pack-lane lanes _ L b
             ∙ rw gate-is
             (ap (gateFn (g .kind))
-            (map-from (lane L) (g .entries) 0 (sourceAt v (basesOf file d g) f (rowsAt + k * g .entries))
+            (map-from (lane L) (g .entries) 0 (sourceAt v (basesOf (task .file) d g) f (rowsAt + k * g .entries))
             ∙ from-ext (g .entries) 0 _ _ (λ e z m. source-lane k e l (omega arith))
-            ∙ sym (map-from (λ (m : ℕ). getD (traceAt c s m .values) (faninIndex (g .delay) (framesAt c m .times) (getD ts k 0)) false) (g .entries) 0 (faninAt file (g .list)))))
+            ∙ sym (map-from (λ (m : ℕ). getD (traceAt c s m .values) (faninIndex (g .delay) (framesAt c m .times) (getD ts k 0)) false) (g .entries) 0 (faninAt (task .file) (g .list)))))
 
-        raws-lane : map (lane L) (rawWords v (basesOf file d g) f (g .kind) (g .entries) rowsAt (length ts)) ≡ map (rawOf c j s) ts
+        raws-lane : map (lane L) (rawWords v (basesOf (task .file) d g) f (g .kind) (g .entries) rowsAt (length ts)) ≡ map (rawOf c j s) ts
         unfolding rawWords
         raws-lane =
-            map-from (lane L) (length ts) 0 (λ (k : ℕ). gateWord (g .kind) (sources v (basesOf file d g) f (rowsAt + k * g .entries) (g .entries)))
+            map-from (lane L) (length ts) 0 (λ (k : ℕ). gateWord (g .kind) (sources v (basesOf (task .file) d g) f (rowsAt + k * g .entries) (g .entries)))
             ∙ from-ext (length ts) 0 _ _ (λ k z l. raw-lane k (omega arith))
             ∙ sym (map-at (rawOf c j s) ts)
 
         -- and the filter makes of them the lane's own values
-        lane-values : filtered (partOf d i net) (map (lane L) (rawWords v (basesOf file d g) f (g .kind) (g .entries) rowsAt (length ts))) ≡ traceAt c s net .values
+        lane-values : filtered (partOf d i net) (map (lane L) (rawWords v (basesOf (task .file) d g) f (g .kind) (g .entries) rowsAt (length ts))) ≡ traceAt c s net .values
         lane-values = rw (inertial-is, raws-lane) (sym (every-gate .gate-values s j listed))
 
-      words-are : gateWords file d i f net g rowsAt v ≡ packedValues c before after net
+      words-are : gateWords (task .file) d i f net g rowsAt v ≡ packedValues c w net
       unfolding gateWords filteredWords packedValues packedWord
       words-are =
-          let raws = rawWords v (basesOf file d g) f (g .kind) (g .entries) rowsAt (length ts) in
-          let size : length raws ≡ length ts = raw-length v (basesOf file d g) f (g .kind) (g .entries) rowsAt (length ts) in
-          let even : length (partOf d i net) ≡ length raws = rw (inertial-is, size) (indices-each c (no-feedback c (circuit-within file (p .read))) net there) in
+          let raws = rawWords v (basesOf (task .file) d g) f (g .kind) (g .entries) rowsAt (length ts) in
+          let size : length raws ≡ length ts = raw-length v (basesOf (task .file) d g) f (g .kind) (g .entries) rowsAt (length ts) in
+          let even : length (partOf d i net) ≡ length raws = rw (inertial-is, size) (indices-each c (no-feedback c (circuit-within (task .file) (p .read))) net there) in
           rw (own-count, eq-eqb (length (partOf d i net)) (length raws) even, size)
           (from-ext (length ts) 0 _ _ (λ k z l. pack-ext lanes _ _ (λ L b. ap (λ (bs : List Bool). getD bs k false) (lane-values L b))))
 
       -- one net more
-      gate-holds : {v′ : List ℕ} → length (allTimes fs) ≤ length v → v′ ≡ sets v (firstFrame d net) (gateWords file d i f net g rowsAt v) → Holds file before after (suc net) v′
+      gate-holds : {v′ : List ℕ} → length (allTimes fs) ≤ length v → v′ ≡ sets v (firstFrame d net) (gateWords (task .file) d i f net g rowsAt v) → Holds task w (suc net) v′
       gate-holds {v′} size e =
-          let count : length (words net) ≡ length ts = word-each c before after net in
+          let count : length (words net) ≡ length ts = word-each c w net in
           let room : length (allTimes (take net fs)) + length (words net) ≤ length v = omega (arith, frames-end fs net there) in
           record {
             is =
@@ -253,23 +255,23 @@ module _ {file d i f : List ℕ} (p : Planned file d i f) where
 
 -- ---- the loop over the gates
 
-module _ {file d i f : List ℕ} (p : Planned file d i f) {inputs : ℕ} (e : inputs ≡ inputsOf file) where
-  net-is : inputs ≡ circuitOf file .inputs
-  net-is = e ∙ sym (circuit-inputs file)
+module _ {task : Task} {d i f : List ℕ} (p : Planned task d i f) {inputs : ℕ} (e : inputs ≡ inputsOf (task .file)) where
+  net-is : inputs ≡ circuitIn task .inputs
+  net-is = e ∙ sym (circuit-inputs (task .file))
 
-  pub rows-start : 0 ≡ length (allFanins (take (inputs + 0) (frames (circuitOf file))))
-  rows-start = rw (net-is, add-zero) (sym (no-rows (circuitOf file) (circuitOf file .inputs) (omega arith)))
+  pub rows-start : 0 ≡ length (allFanins (take (inputs + 0) (framesIn task)))
+  rows-start = rw (net-is, add-zero) (sym (no-rows (circuitIn task) (circuitIn task .inputs) (omega arith)))
 
   -- j gates are done, the rows of the next start at `at`
-  module _ {j : ℕ} (h : j < gatesOf file) {at : ℕ} (rows : at ≡ length (allFanins (take (inputs + j) (frames (circuitOf file))))) {g : GateRecord} (is : g ≡ recordOf file j) where
-    pub turn-ready : (size : ℕ) → length (allTimes (frames (circuitOf file))) ≤ size → Ready file d i f size (inputs + j) g at
+  module _ {j : ℕ} (h : j < gatesOf (task .file)) {at : ℕ} (rows : at ≡ length (allFanins (take (inputs + j) (framesIn task)))) {g : GateRecord} (is : g ≡ recordOf (task .file) j) where
+    pub turn-ready : (size : ℕ) → length (allTimes (framesIn task)) ≤ size → Ready (task .file) d i f size (inputs + j) g at
     turn-ready size s = rw (rows, is, net-is) (gate-ready p j h s)
 
-    pub turn-rows : at + frameCount d (inputs + j) * g .entries ≡ length (allFanins (take (inputs + (j + 1)) (frames (circuitOf file))))
-    turn-rows = rw (rows, is, net-is, let q : circuitOf file .inputs + (j + 1) ≡ suc (circuitOf file .inputs + j) = omega arith in q) (sym (rows-next p j h))
+    pub turn-rows : at + frameCount d (inputs + j) * g .entries ≡ length (allFanins (take (inputs + (j + 1)) (framesIn task)))
+    turn-rows = rw (rows, is, net-is, let q : circuitIn task .inputs + (j + 1) ≡ suc (circuitIn task .inputs + j) = omega arith in q) (sym (rows-next p j h))
 
-    pub turn-holds : {before after v v′ : List ℕ} → length (allTimes (frames (circuitOf file))) ≤ length v → v′ ≡ sets v (firstFrame d (inputs + j)) (gateWords file d i f (inputs + j) g at v)
-        → Holds file before after (inputs + j) v → Holds file before after (inputs + (j + 1)) v′
-    turn-holds {before} {after} {v} {v′} size w holds =
-        let q : inputs + (j + 1) ≡ suc (circuitOf file .inputs + j) = omega (arith, net-is) in
-        rw q (gate-holds p j h before after v (rw net-is at holds) size (rw (rows, is, net-is) at w))
+    pub turn-holds : {w : WordLists} {v v′ : List ℕ} → length (allTimes (framesIn task)) ≤ length v → v′ ≡ sets v (firstFrame d (inputs + j)) (gateWords (task .file) d i f (inputs + j) g at v)
+        → Holds task w (inputs + j) v → Holds task w (inputs + (j + 1)) v′
+    turn-holds {w} {v} {v′} size stored holds =
+        let q : inputs + (j + 1) ≡ suc (circuitIn task .inputs + j) = omega (arith, net-is) in
+        rw q (gate-holds p j h w v (rw net-is at holds) size (rw (rows, is, net-is) at stored))

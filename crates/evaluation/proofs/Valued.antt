@@ -12,54 +12,55 @@ use Rattle.lists.specs.Tables.{tabulateFrom, tabulate}
 use Rattle.lists.proofs.Tabled.{from-ext}
 use Rattle.method.specs.Circuit.{Circuit}
 use Rattle.method.specs.Words.{lanes, lane}
-use Rattle.method.specs.Frames.{frames}
 use Rattle.method.specs.Traces.{traceAt}
 use Rattle.method.specs.Packed.{laneOf, packedWord, packedValues}
 use Rattle.method.proofs.Bits.{pack-ext}
 use Rattle.method.proofs.Netwise.{net-by-net}
-use Rattle.circuit.specs.File.{inputsOf, gatesOf, circuitOf}
+use Rattle.method.specs.WordLists.{WordLists, lengthsOf}
+use Rattle.circuit.specs.File.{inputsOf, gatesOf}
+use Rattle.circuit.specs.Task.{Task, circuitIn, netsIn, framesIn, allPackedIn}
 use Rattle.circuit.proofs.Parts.{gates-length, circuit-inputs}
 use Rattle.method.specs.Layout.{allTimes}
-use Rattle.method.specs.Values.{netCount, allValues}
+use Rattle.method.specs.Values.{allValues}
 use Rattle.evaluation.specs.Steps.{Holds, Driven, repacked, inputWords}
 use Rattle.method.proofs.Prefix.{input-frames}
 
 -- ---- the inputs
 
-module _ (c : Circuit) (before after : List ℕ) where
+module _ (c : Circuit) (w : WordLists) where
   -- each word is packed from its own bits
-  input-words : (i : ℕ) → i < c .inputs → packedValues c before after i ≡ repacked (getD before i 0) ∷ repacked (getD after i 0) ∷ []
+  input-words : (i : ℕ) → i < c .inputs → packedValues c w i ≡ repacked (getD (w .before) i 0) ∷ repacked (getD (w .after) i 0) ∷ []
   unfolding packedValues packedWord tabulateFrom
   input-words i h =
-      let own : (L : ℕ) → L < lanes → traceAt c (laneOf L before after) i .values ≡ lane L (getD before i 0) ∷ lane L (getD after i 0) ∷ [] =
-      λ L l. net-by-net c .0 .input-values (laneOf L before after) i h in
+      let own : (L : ℕ) → L < lanes → traceAt c (laneOf L w) i .values ≡ lane L (getD (w .before) i 0) ∷ lane L (getD (w .after) i 0) ∷ [] =
+      λ L l. net-by-net c .0 .input-values (laneOf L w) i h in
       rw (net-by-net c .0 .input-times i h) (ap₂ (λ (x y : ℕ). x ∷ y ∷ []) (pack-ext lanes _ _ (λ L l. rw (own L l))) (pack-ext lanes _ _ (λ L l. rw (own L l))))
 
-  all-inputs : inputWords before after (c .inputs) ≡ flatten (tabulate (c .inputs) (packedValues c before after))
+  all-inputs : inputWords w (c .inputs) ≡ flatten (tabulate (c .inputs) (packedValues c w))
   unfolding inputWords
-  all-inputs = ap flatten (from-ext (c .inputs) 0 _ (packedValues c before after) (λ i l u. sym (input-words i (omega arith))))
+  all-inputs = ap flatten (from-ext (c .inputs) 0 _ (packedValues c w) (λ i l u. sym (input-words i (omega arith))))
 
-module _ (file before after : List ℕ) where
-  pub holds-inputs : {inputs : ℕ} → inputs ≡ inputsOf file → length before ≡ inputsOf file → {v : List ℕ} → take (2 * length before) v ≡ inputWords before after (length before)
-      → Holds file before after inputs v
+module _ (task : Task) (w : WordLists) where
+  pub holds-inputs : {inputs : ℕ} → inputs ≡ inputsOf (task .file) → length (w .before) ≡ inputsOf (task .file) → {v : List ℕ} → take (2 * length (w .before)) v ≡ inputWords w (length (w .before))
+      → Holds task w inputs v
   holds-inputs {inputs} e l {v} h =
-      let n : c .inputs ≡ inputs = circuit-inputs file ∙ sym e in
-      record { is = rw (← n, input-frames c (c .inputs) (omega arith), ← all-inputs c before after) (rw (l, ← circuit-inputs file) at h) }
+      let n : c .inputs ≡ inputs = circuit-inputs (task .file) ∙ sym e in
+      record { is = rw (← n, input-frames c (c .inputs) (omega arith), ← all-inputs c w) (rw (l, ← circuit-inputs (task .file)) at h) }
     where
       c : Circuit
-      c = circuitOf file
+      c = circuitIn task
 
   -- ---- all nets
 
-  module _ {inputs gates : ℕ} (i : inputs ≡ inputsOf file) (g : gates ≡ gatesOf file) {v : List ℕ} (h : Holds file before after (inputs + gates) v) where
-    count-is : inputs + gates ≡ netCount (circuitOf file)
-    count-is = omega (arith, circuit-inputs file, gates-length file)
+  module _ {inputs gates : ℕ} (i : inputs ≡ inputsOf (task .file)) (g : gates ≡ gatesOf (task .file)) {v : List ℕ} (h : Holds task w (inputs + gates) v) where
+    count-is : inputs + gates ≡ netsIn task
+    count-is = omega (arith, circuit-inputs (task .file), gates-length (task .file))
 
-    pub values-are : take (length (allTimes (frames (circuitOf file)))) v ≡ allValues (circuitOf file) before after
+    pub values-are : take (length (allTimes (framesIn task))) v ≡ allPackedIn task w
     unfolding allValues
     values-are =
-        let whole : take (netCount (circuitOf file)) (frames (circuitOf file)) ≡ frames (circuitOf file) =
-        rw (← net-by-net (circuitOf file) .0 .frames-count) (take-length (frames (circuitOf file))) in
+        let whole : take (netsIn task) (framesIn task) ≡ framesIn task =
+        rw (← net-by-net (circuitIn task) .0 .frames-count) (take-length (framesIn task)) in
         rw (count-is, whole) at (h .is)
 
 -- ---- the rest
@@ -76,11 +77,11 @@ rest-cleared v n l h {xs} e {ys} c =
 
 -- ---- the whole
 
-pub evaluated : (file before after : List ℕ) {inputs gates total : ℕ} → inputs ≡ inputsOf file → gates ≡ gatesOf file → {v : List ℕ} → Driven file v (length before) (length after) total
-    → {v1 v2 ys : List ℕ} → take (2 * length before) v1 ≡ inputWords before after (length before)
-    → ((b a : List ℕ) → Holds file b a inputs v1 → Holds file b a (inputs + gates) v2)
+pub evaluated : (task : Task) (w : WordLists) {inputs gates total : ℕ} → inputs ≡ inputsOf (task .file) → gates ≡ gatesOf (task .file) → {v : List ℕ} → Driven task (lengthsOf w) v total
+    → {v1 v2 ys : List ℕ} → take (2 * length (w .before)) v1 ≡ inputWords w (length (w .before))
+    → ((x : WordLists) → Holds task x inputs v1 → Holds task x (inputs + gates) v2)
     → length v2 ≡ length v → ys ≡ cleared (take (length v2 - total) (drop total v2))
-    → take total v2 ++ (ys ++ drop (length v2 - total) (drop total v2)) ≡ padded (length v) (allValues (circuitOf file) before after)
-evaluated file before after {inputs} {gates} {total} ni ng {v} d {v1} {v2} {ys} w g l z =
-    let all = values-are file before after ni ng (g before after (holds-inputs file before after ni (d .before-each) w)) in
+    → take total v2 ++ (ys ++ drop (length v2 - total) (drop total v2)) ≡ padded (length v) (allPackedIn task w)
+evaluated task w {inputs} {gates} {total} ni ng {v} d {v1} {v2} {ys} h g l z =
+    let all = values-are task w ni ng (g w (holds-inputs task w ni (d .before-each) h)) in
     rest-cleared v2 total l (omega (arith, d .total-is, d .words .words)) (rw (← d .total-is) at all) z

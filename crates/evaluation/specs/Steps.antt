@@ -9,12 +9,12 @@ use Rattle.lists.specs.Tables.{tabulate, some}
 use Rattle.method.specs.declared.Kind.{Kind}
 use Rattle.method.specs.declared.Kind.the-variants.{Buf, Not, And, Nand, Or, Nor, Xor, Xnor}
 use Rattle.method.specs.Kinds.{ones, odd, gateFn, mostFanins, takes}
-use Rattle.method.specs.Frames.{frames}
 use Rattle.method.specs.Words.{lanes, lane, pack}
-use Rattle.method.specs.Packed.{packedValues}
+use Rattle.method.specs.WordLists.{WordLists, Lengths}
 use Rattle.circuit.specs.declared.GateRecord.{GateRecord}
-use Rattle.circuit.specs.File.{inputsOf, gatesOf, faninAt, circuitOf}
+use Rattle.circuit.specs.File.{inputsOf, gatesOf, faninAt}
 use Rattle.circuit.specs.Questions.{readOf}
+use Rattle.circuit.specs.Task.{Task, framesIn, packedIn}
 use Rattle.method.specs.Areas.{areas}
 use Rattle.method.specs.Layout.{laid, firstFrame, frameCount, partOf, allTimes, allFanins}
 use Rattle.words.specs.Filtered.{filteredWords}
@@ -136,35 +136,35 @@ pub record Ready (file d i f : List ℕ) (size net : ℕ) (g : GateRecord) (at :
 -- ---- all gates
 
 -- the areas hold the plan of an accepted file, with some times, and are long enough for it
-pub record Planned (file d i f : List ℕ) : Type 0 where
-  pub read : readOf file ≡ accepted (record { inputs = inputsOf file; gates = gatesOf file })
+pub record Planned (task : Task) (d i f : List ℕ) : Type 0 where
+  pub read : readOf (task .file) ≡ accepted (record { inputs = inputsOf (task .file); gates = gatesOf (task .file) })
   pub times : List ℕ
-  pub is : areas d times i f ≡ laid (frames (circuitOf file)) (areas d times i f)
-  pub pairs : 2 * length (frames (circuitOf file)) ≤ length d
-  pub indices : length (allTimes (frames (circuitOf file))) ≤ length i
-  pub rows : length (allFanins (frames (circuitOf file))) ≤ length f
+  pub is : areas d times i f ≡ laid (framesIn task) (areas d times i f)
+  pub pairs : 2 * length (framesIn task) ≤ length d
+  pub indices : length (allTimes (framesIn task)) ≤ length i
+  pub rows : length (allFanins (framesIn task)) ≤ length f
 
 -- the values area has a word for each frame
-pub record Roomy (file v : List ℕ) : Type 0 where
-  pub words : length (allTimes (frames (circuitOf file))) ≤ length v
+pub record Roomy (task : Task) (v : List ℕ) : Type 0 where
+  pub words : length (allTimes (framesIn task)) ≤ length v
 
 -- the values area starts with the packed values of the first n nets
-pub record Holds (file before after : List ℕ) (n : ℕ) (v : List ℕ) : Type 0 where
-  pub is : take (length (allTimes (take n (frames (circuitOf file))))) v ≡ flatten (tabulate n (packedValues (circuitOf file) before after))
+pub record Holds (task : Task) (w : WordLists) (n : ℕ) (v : List ℕ) : Type 0 where
+  pub is : take (length (allTimes (take n (framesIn task)))) v ≡ flatten (tabulate n (packedIn task w))
 
 -- the two words of each of the first n inputs, each packed from its own bits
 abbrev pub repacked : ℕ → ℕ
 repacked word = pack lanes (λ (L : ℕ). lane L word)
 
-unfoldable pub inputWords : List ℕ → List ℕ → ℕ → List ℕ
-inputWords before after n = flatten (tabulate n (λ (i : ℕ). repacked (getD before i 0) ∷ repacked (getD after i 0) ∷ []))
+unfoldable pub inputWords : WordLists → ℕ → List ℕ
+inputWords w n = flatten (tabulate n (λ (i : ℕ). repacked (getD (w .before) i 0) ∷ repacked (getD (w .after) i 0) ∷ []))
 
 -- ---- the whole
 
 -- the word lists are as long as there are inputs, the values have room, and there are this many frames
-pub record Driven (file v : List ℕ) (before after total : ℕ) : Type 0 where
-  pub before-each : before ≡ inputsOf file
-  pub after-each : after ≡ before
-  pub room : 2 * before ≤ length v
-  pub words : Roomy file v
-  pub total-is : total ≡ length (allTimes (frames (circuitOf file)))
+pub record Driven (task : Task) (l : Lengths) (v : List ℕ) (total : ℕ) : Type 0 where
+  pub before-each : l .before ≡ inputsOf (task .file)
+  pub after-each : l .after ≡ l .before
+  pub room : 2 * l .before ≤ length v
+  pub words : Roomy task v
+  pub total-is : total ≡ length (allTimes (framesIn task))

@@ -1,11 +1,12 @@
 // The gates, one after the other: each net's words from those of the nets before it.
 ghost use mathlib.Core.Path.{_≡_};
-ghost use mathlib.Core.List.{List};
 ghost use Prim.Native.Nat.{ℕ, _+_, _*_, _<_, _≤_};
 ghost use lib.ListN.{length, take};
 ghost use lib.Seq.{sets};
 ghost use Rattle.method.specs.Kinds.{mostFanins};
+ghost use Rattle.method.specs.WordLists.{WordLists, wordLists};
 ghost use Rattle.circuit.specs.File.{inputsOf, gatesOf, faninAt};
+ghost use Rattle.circuit.specs.Task.{taskOf};
 ghost use Rattle.method.specs.Layout.{firstFrame, frameCount};
 ghost use Rattle.evaluation.specs.Steps.{Bases, Holds, Planned, Raw, Ready, Roomy, basesOf, gateWords, inputWords, rawWords};
 use crate::rows::pair_rows;
@@ -17,7 +18,7 @@ use method::Net;
 // Writes the two words of each input.
 pub(crate) fn input_words(values: &mut [u64], before: &[u64], after: &[u64])
     requires { ⌜ (2 * length (now before) ≤ length (now values)) × (length (now after) ≡ length (now before)) ⌝ }
-    ensures { λ _. ⌜ take (2 * length (now (before .entry))) (now (values .exit)) ≡ inputWords (now (before .entry)) (now (after .entry)) (length (now (before .entry))) ⌝ }
+    ensures { λ _. ⌜ take (2 * length (now (before .entry))) (now (values .exit)) ≡ inputWords (wordLists (now (before .entry)) (now (after .entry))) (length (now (before .entry))) ⌝ }
 {
     let mut i = 0;
     while i < before.len() {
@@ -37,9 +38,9 @@ pub(crate) fn all_gates(
     inputs: u16,
     gates: u16,
 )
-    requires { ⌜ Planned (now file) (now directory) (now inertial) (now fanins) × (inputs ≡ inputsOf (now file)) × (gates ≡ gatesOf (now file)) ⌝ }
-    requires { ⌜ Roomy (now file) (now values) ⌝ }
-    ensures { λ _. ⌜ ((before after : List ℕ) → Holds (now (file .entry)) before after inputs (now (values .entry)) → Holds (now (file .entry)) before after (inputs + gates) (now (values .exit))) ⌝ }
+    requires { ⌜ Planned (taskOf (now file)) (now directory) (now inertial) (now fanins) × (inputs ≡ inputsOf (now file)) × (gates ≡ gatesOf (now file)) ⌝ }
+    requires { ⌜ Roomy (taskOf (now file)) (now values) ⌝ }
+    ensures { λ _. ⌜ ((w : WordLists) → Holds (taskOf (now (file .entry))) w inputs (now (values .entry)) → Holds (taskOf (now (file .entry))) w (inputs + gates) (now (values .exit))) ⌝ }
 {
     let mut at: usize = 0;
     let mut j: u16 = 0;

@@ -2,8 +2,9 @@
 ghost use mathlib.Core.Path.{_≡_};
 ghost use lib.ListN.{length};
 ghost use Rattle.lists.specs.Areas.{padded};
-ghost use Rattle.method.specs.Values.{allValues};
-ghost use Rattle.circuit.specs.File.{inputsOf, gatesOf, circuitOf};
+ghost use Rattle.method.specs.WordLists.{wordLists, lengthsOf};
+ghost use Rattle.circuit.specs.File.{inputsOf, gatesOf};
+ghost use Rattle.circuit.specs.Task.{taskOf, allPackedIn};
 ghost use Rattle.evaluation.specs.Steps.{Driven, Planned};
 
 mod gates;
@@ -26,9 +27,9 @@ pub fn evaluate(
     before: &[u64],
     after: &[u64],
 )
-    requires { ⌜ Planned (now file) (now directory) (now inertial) (now fanins) × (inputs ≡ inputsOf (now file)) × (gates ≡ gatesOf (now file)) ⌝ }
-    requires { ⌜ Driven (now file) (now values) (length (now before)) (length (now after)) total ⌝ }
-    ensures { λ _. ⌜ now (values .exit) ≡ padded (length (now (values .entry))) (allValues (circuitOf (now (file .entry))) (now (before .entry)) (now (after .entry))) ⌝ }
+    requires { ⌜ Planned (taskOf (now file)) (now directory) (now inertial) (now fanins) × (inputs ≡ inputsOf (now file)) × (gates ≡ gatesOf (now file)) ⌝ }
+    requires { ⌜ Driven (taskOf (now file)) (lengthsOf (wordLists (now before) (now after))) (now values) total ⌝ }
+    ensures { λ _. ⌜ now (values .exit) ≡ padded (length (now (values .entry))) (allPackedIn (taskOf (now (file .entry))) (wordLists (now (before .entry)) (now (after .entry)))) ⌝ }
 {
     let frames = total as usize;
     input_words(values, before, after);

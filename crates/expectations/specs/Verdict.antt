@@ -4,10 +4,6 @@ use mathlib.Core.Bool.{Bool, not, cond, _&&_, Bool·beq}
 use mathlib.Core.List.{List, [], _∷_}
 use lib.Dec.{ltb, leb, eqb}
 use Rattle.lists.specs.Ladder.{Answer, accepted, refused}
-use Rattle.method.specs.Circuit.{Circuit}
-use Rattle.method.specs.Frames.{framesAt}
-use Rattle.method.specs.Traces.{traceAt}
-use Rattle.method.specs.Packed.{laneOf}
 use Rattle.expectations.specs.declared.Expectation.{Expectation}
 use Rattle.expectations.specs.declared.Marking.{Marking}
 use Rattle.expectations.specs.declared.Marking.the-variants as M
@@ -38,22 +34,11 @@ firstBreak e i k [] levels behind = behind
 firstBreak e i k (t ∷ times) [] behind = behind
 firstBreak e i k (t ∷ times) (level ∷ levels) behind = cond (breaks e t times level) (place i k) (firstBreak e i (suc k) times levels behind)
 
--- the verdict on expectations from position i on, where a net has these times, and these levels in a lane
+-- the verdict on expectations from position i on, where each net has these times, and in each lane these levels
 unfoldable pub verdictFrom : (ℕ → List ℕ) → (ℕ → ℕ → List Bool) → ℕ → List Expectation → Verdict
 verdictFrom times levels i [] = allMet
 verdictFrom times levels i (e ∷ list) =
     firstBreak e i 0 (times (e .net .0)) (levels (e .lane) (e .net .0)) (verdictFrom times levels (suc i) list)
-
--- the times of net n's frames, and its levels in lane L: the values of that lane's own trace
-abbrev pub netTimes : Circuit → ℕ → List ℕ
-netTimes c n = framesAt c n .times
-
-abbrev pub laneLevels : Circuit → List ℕ → List ℕ → ℕ → ℕ → List Bool
-laneLevels c before after L n = traceAt c (laneOf L before after) n .values
-
--- of a circuit, run for these words
-unfoldable pub verdict : Circuit → List ℕ → List ℕ → List Expectation → Verdict
-verdict c before after list = verdictFrom (netTimes c) (laneLevels c before after) 0 list
 
 -- a `Marking` in the paper's terms: all met, the place, or the number alone
 unfoldable pub onPaper : Marking → Answer Verdict

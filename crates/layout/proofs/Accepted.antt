@@ -2,7 +2,7 @@
 -- Assumes nothing.
 use Prim.Native.Nat.{ℕ, _+_, _≤_, _<_}
 use mathlib.Core.Path.{_≡_, _∙_}
-use mathlib.Core.List.{List, [], _∷_, _++_}
+use mathlib.Core.List.{[], _∷_, _++_}
 use native.Mathlib.Omega.{arith}
 use native.Mathlib.Numerals.{add-one}
 use lib.ListN.{length, getD}
@@ -13,25 +13,26 @@ use Rattle.method.specs.Frames.{framesAt}
 use Rattle.method.specs.First.{firstGates}
 use Rattle.method.proofs.Planned.{ends-at}
 use Rattle.circuit.specs.Limits.{mostTime, Within}
-use Rattle.circuit.specs.File.{inputsOf, gatesOf, circuitOf}
+use Rattle.circuit.specs.File.{inputsOf, gatesOf}
 use Rattle.circuit.specs.Questions.{readOf}
+use Rattle.circuit.specs.Task.{Task, circuitIn}
 use Rattle.circuit.proofs.Bounded.{time-low, within-first}
 use Rattle.circuit.proofs.Parts.{gates-length, circuit-inputs, within, gate-entries}
 use Rattle.layout.specs.Steps.{framesOf}
 use Rattle.method.proofs.Prefix.{nextFrames, frames-next, frames-count, Sized, sized}
 
-module _ (file : List ℕ) (e : readOf file ≡ accepted (record { inputs = inputsOf file; gates = gatesOf file })) where
-  pub nets-sized : (j : ℕ) → j ≤ gatesOf file → Sized (framesOf file j)
+module _ (task : Task) (e : readOf (task .file) ≡ accepted (record { inputs = inputsOf (task .file); gates = gatesOf (task .file) })) where
+  pub nets-sized : (j : ℕ) → j ≤ gatesOf (task .file) → Sized (framesOf task j)
   nets-sized j h =
-      sized (circuitOf file)
-      (λ k l. let m : k < gatesOf file = omega (arith, gates-length file) in omega (arith, gate-entries file e k m, within file e k m .entries-most))
-      j (omega (arith, gates-length file))
+      sized (circuitIn task)
+      (λ k l. let m : k < gatesOf (task .file) = omega (arith, gates-length (task .file)) in omega (arith, gate-entries (task .file) e k m, within (task .file) e k m .entries-most))
+      j (omega (arith, gates-length (task .file)))
 
-  pub nets-count : (j : ℕ) → j ≤ gatesOf file → length (framesOf file j) ≡ inputsOf file + j
-  nets-count j h = frames-count (circuitOf file) j (omega (arith, gates-length file)) ∙ rw (circuit-inputs file)
+  pub nets-count : (j : ℕ) → j ≤ gatesOf (task .file) → length (framesOf task j) ≡ inputsOf (task .file) + j
+  nets-count j h = frames-count (circuitIn task) j (omega (arith, gates-length (task .file))) ∙ rw (circuit-inputs (task .file))
 
-  pub nets-next : (j : ℕ) → j < gatesOf file → framesOf file (j + 1) ≡ framesOf file j ++ (nextFrames (circuitOf file) j ∷ [])
-  nets-next j h = rw (add-one j) (frames-next (circuitOf file) j (omega (arith, gates-length file)))
+  pub nets-next : (j : ℕ) → j < gatesOf (task .file) → framesOf task (j + 1) ≡ framesOf task j ++ (nextFrames (circuitIn task) j ∷ [])
+  nets-next j h = rw (add-one j) (frames-next (circuitIn task) j (omega (arith, gates-length (task .file))))
 
 -- how late the frames of the first gates of a circuit within the limits get
 pub frames-early : (c : Circuit) → Within c → (j : ℕ) → j ≤ length (c .gates) → (n : ℕ) → n < c .inputs + j → (k : ℕ) → getD (framesAt (firstGates j c) n .times) k 0 ≤ mostTime

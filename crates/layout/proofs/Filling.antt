@@ -4,8 +4,9 @@ use Prim.Native.Nat.{ℕ}
 use mathlib.Core.Path.{_≡_, sym, _∙_}
 use mathlib.Core.List.{List}
 use Rattle.lists.specs.Areas.{cleared}
-use Rattle.method.specs.Frames.{Frames, frames}
-use Rattle.circuit.specs.File.{gatesOf, circuitOf}
+use Rattle.method.specs.Frames.{Frames}
+use Rattle.circuit.specs.File.{gatesOf}
+use Rattle.circuit.specs.Task.{Task, circuitIn, framesIn}
 use Rattle.circuit.proofs.Parts.{gates-length}
 use Rattle.method.specs.declared.Totals.{Totals}
 use Rattle.layout.specs.declared.Progress.{Progress}
@@ -31,22 +32,22 @@ cleared-alike : {a a′ : Areas} → Alike a a′ → allCleared a′ ≡ allCle
 unfolding allCleared
 cleared-alike l = rw (l .directory, l .times, l .inertial, l .fanins)
 
-module _ (file : List ℕ) {gates : ℕ} (all : gates ≡ gatesOf file) {a′ : Areas} {r : Progress} (h : Reached file gates a′ r) where
-  nets-all : framesOf file gates ≡ frames (circuitOf file)
-  nets-all = frames-all (circuitOf file) gates (all ∙ sym (gates-length file))
+module _ (task : Task) {gates : ℕ} (all : gates ≡ gatesOf (task .file)) {a′ : Areas} {r : Progress} (h : Reached task gates a′ r) where
+  nets-all : framesOf task gates ≡ framesIn task
+  nets-all = frames-all (circuitIn task) gates (all ∙ sym (gates-length (task .file)))
 
-  pub filled-now : {a : Areas} (t : Totals) → r ≡ P.Planned t → Alike a a′ → Filled file a a′ (P.Planned t)
+  pub filled-now : {a : Areas} (t : Totals) → r ≡ P.Planned t → Alike a a′ → Filled task a a′ (P.Planned t)
   filled-now t e l =
       let o = h .planned t e in
       record {
         fit = λ u q. rw nets-all at (o .fit);
         totals = λ u q. (let s : u ≡ t = cc in s ∙ (rw nets-all at (o .totals)));
-        filled = λ u q. (rw nets-all at (o .is)) ∙ laid-alike (frames (circuitOf file)) l;
+        filled = λ u q. (rw nets-all at (o .is)) ∙ laid-alike (framesIn task) l;
         stopped = λ q. absurd (never q);
         emptied = λ q. absurd (never q);
       }
 
-  pub filled-none : r ≡ P.TooMany → {a b : Areas} → b ≡ allCleared a′ → Alike a a′ → Filled file a b P.TooMany
+  pub filled-none : r ≡ P.TooMany → {a b : Areas} → b ≡ allCleared a′ → Alike a a′ → Filled task a b P.TooMany
   filled-none e c l =
       record {
         fit = λ u q. absurd (never (sym q));

@@ -10,8 +10,9 @@ use Rattle.lists.specs.Tables.{tabulateFrom}
 use Rattle.lists.specs.Areas.{padded}
 use Rattle.lists.proofs.Padding.{pad-cleared}
 use Rattle.method.specs.Frames.{inputFrames}
-use Rattle.circuit.specs.File.{inputsOf, circuitOf}
+use Rattle.circuit.specs.File.{inputsOf}
 use Rattle.circuit.specs.Limits.{mostInputs}
+use Rattle.circuit.specs.Task.{Task, circuitIn}
 use Rattle.method.specs.declared.Totals.{Totals}
 use Rattle.method.specs.Areas.{Areas, areas, allCleared}
 use Rattle.method.specs.Layout.{allTimes, allInertial, allFanins}
@@ -50,20 +51,20 @@ inputs-totals n h = rw (inputs-frames n, fanins-from n 0, inputs-latest n h)
 
 -- ---- of a file
 
-module _ (file : List ℕ) {a : Areas} (given : Given file a) where
-  nets-are : framesOf file 0 ≡ inputsOnly (inputsOf file)
-  nets-are = frames-none (circuitOf file) ∙ rw (circuit-inputs file)
+module _ (task : Task) {a : Areas} (given : Given task a) where
+  nets-are : framesOf task 0 ≡ inputsOnly (inputsOf (task .file))
+  nets-are = frames-none (circuitIn task) ∙ rw (circuit-inputs (task .file))
 
-  fit : fits (framesOf file 0) ≡ true
-  fit = rw nets-are (fits-inputs (inputsOf file) (omega (arith, few file (given .read))))
+  fit : fits (framesOf task 0) ≡ true
+  fit = rw nets-are (fits-inputs (inputsOf (task .file)) (omega (arith, few (task .file) (given .read))))
 
-  room : Room (inputsOnly (inputsOf file)) a
+  room : Room (inputsOnly (inputsOf (task .file))) a
   room = rw nets-are at (given .room 0 (omega arith) fit)
 
-  pub inputs-room : (1 ≤ inputsOf file) × (inputsOf file ≤ mostInputs) × (2 * inputsOf file ≤ length (a .directory)) × (2 * inputsOf file ≤ length (a .times))
+  pub inputs-room : (1 ≤ inputsOf (task .file)) × (inputsOf (task .file) ≤ mostInputs) × (2 * inputsOf (task .file) ≤ length (a .directory)) × (2 * inputsOf (task .file) ≤ length (a .times))
   inputs-room =
-      let n = few file (given .read) in
-      (n .0, n .1, omega (arith, room .directory, inputs-count (inputsOf file)), omega (arith, room .times, inputs-frames (inputsOf file)))
+      let n = few (task .file) (given .read) in
+      (n .0, n .1, omega (arith, room .directory, inputs-count (inputsOf (task .file))), omega (arith, room .times, inputs-frames (inputsOf (task .file))))
 
   -- the areas were cleared
   module _ {a′ : Areas} (cleared : a′ ≡ allCleared a) where
@@ -75,16 +76,16 @@ module _ (file : List ℕ) {a : Areas} (given : Given file a) where
           times-are = rw no-times (pad-cleared (a .times) 0 (ap (λ (x : Areas). x .times) cleared) (omega arith));
         }
 
-    inertial-0 : a′ .inertial ≡ padded (length (a′ .inertial)) (allInertial (inputsOnly (inputsOf file)))
+    inertial-0 : a′ .inertial ≡ padded (length (a′ .inertial)) (allInertial (inputsOnly (inputsOf (task .file))))
     unfolding allCleared
     inertial-0 =
-        rw (inertial-from (inputsOf file) 0) (pad-cleared (a .inertial) (2 * inputsOf file) (ap (λ (x : Areas). x .inertial) cleared) (omega (arith, room .inertial, inputs-frames (inputsOf file))))
+        rw (inertial-from (inputsOf (task .file)) 0) (pad-cleared (a .inertial) (2 * inputsOf (task .file)) (ap (λ (x : Areas). x .inertial) cleared) (omega (arith, room .inertial, inputs-frames (inputsOf (task .file)))))
 
-    fanins-0 : a′ .fanins ≡ padded (length (a′ .fanins)) (allFanins (inputsOnly (inputsOf file)))
+    fanins-0 : a′ .fanins ≡ padded (length (a′ .fanins)) (allFanins (inputsOnly (inputsOf (task .file))))
     unfolding allCleared
-    fanins-0 = rw (fanins-from (inputsOf file) 0) (pad-cleared (a .fanins) 0 (ap (λ (x : Areas). x .fanins) cleared) (omega arith))
+    fanins-0 = rw (fanins-from (inputsOf (task .file)) 0) (pad-cleared (a .fanins) 0 (ap (λ (x : Areas). x .fanins) cleared) (omega arith))
 
-    pub going-none : {inputs : ℕ} → inputs ≡ inputsOf file → {d t : List ℕ} {start : Totals} → Inputs d t inputs → start ≡ totalsOf (inputsOnly inputs)
-        → Going file 0 (areas d t (a′ .inertial) (a′ .fanins)) start
+    pub going-none : {inputs : ℕ} → inputs ≡ inputsOf (task .file) → {d t : List ℕ} {start : Totals} → Inputs d t inputs → start ≡ totalsOf (inputsOnly inputs)
+        → Going task 0 (areas d t (a′ .inertial) (a′ .fanins)) start
     going-none e p q =
-        record { is = rw nets-are (inputs-laid (inputsOf file) (rw e at p) inertial-0 fanins-0); totals = rw nets-are (q ∙ rw e); fit = fit }
+        record { is = rw nets-are (inputs-laid (inputsOf (task .file)) (rw e at p) inertial-0 fanins-0); totals = rw nets-are (q ∙ rw e); fit = fit }

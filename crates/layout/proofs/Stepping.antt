@@ -16,8 +16,9 @@ use Rattle.method.specs.Frames.{Frames, faninRow, noFrames}
 use Rattle.method.proofs.Rising.{Starts, starts-test, gateTimes-start}
 use Rattle.method.proofs.Planned.{times-start}
 use Rattle.circuit.specs.declared.GateRecord.{GateRecord}
-use Rattle.circuit.specs.File.{inputsOf, gatesOf, faninAt, recordOf, circuitOf}
+use Rattle.circuit.specs.File.{inputsOf, gatesOf, faninAt, recordOf}
 use Rattle.circuit.specs.Limits.{mostTime}
+use Rattle.circuit.specs.Task.{Task, circuitIn}
 use Rattle.circuit.proofs.Parts.{gates-length, gateFrom, circuit-inputs, circuit-within, few, within, gate-read, gate-entries}
 use Rattle.method.specs.declared.Totals.{Totals}
 use Rattle.layout.specs.declared.Progress.the-variants as P
@@ -40,144 +41,144 @@ use Rattle.method.proofs.Latest.{latest-append, latest-is}
 
 -- own are the gate's times, not too many: there is room for them, and the areas in which they are stored hold the plan with
 -- this gate
-pub record Stays (file : List ℕ) (net j : ℕ) (a : Areas) (t : Totals) (g : GateRecord) (own : List ℕ) : Type 0 where
+pub record Stays (task : Task) (net j : ℕ) (a : Areas) (t : Totals) (g : GateRecord) (own : List ℕ) : Type 0 where
   pub times : Span own
-  pub gathered : own ≡ gateTimes (g .delay) (spans file (g .list) (g .entries) (a .directory) (a .times))
+  pub gathered : own ≡ gateTimes (g .delay) (spans (task .file) (g .list) (g .entries) (a .directory) (a .times))
   pub place : Place a net t (length own) (g .entries)
-  pub stepped : {a′ : Areas} {t′ : Totals} → Stored a a′ net t t′ (g .entries) own (inertialIndices (g .inertial) own) (flatMap (faninRow (g .delay) (spans file (g .list) (g .entries) (a .directory) (a .times))) own)
-      → Going file (j + 1) a′ t′
+  pub stepped : {a′ : Areas} {t′ : Totals} → Stored a a′ net t t′ (g .entries) own (inertialIndices (g .inertial) own) (flatMap (faninRow (g .delay) (spans (task .file) (g .list) (g .entries) (a .directory) (a .times))) own)
+      → Going task (j + 1) a′ t′
 
 -- own, n in number, are the gate's times
-pub record Timed (file : List ℕ) (net j : ℕ) (a : Areas) (t : Totals) (g : GateRecord) (own : List ℕ) (n : ℕ) : Type 0 where
-  pub too-long : mostNetFrames < n → fits (framesOf file (j + 1)) ≡ false
-  pub too-many : mostTotalFrames - t .frames < n → fits (framesOf file (j + 1)) ≡ false
-  pub stays : n ≤ mostNetFrames → n ≤ mostTotalFrames - t .frames → Stays file net j a t g own
+pub record Timed (task : Task) (net j : ℕ) (a : Areas) (t : Totals) (g : GateRecord) (own : List ℕ) (n : ℕ) : Type 0 where
+  pub too-long : mostNetFrames < n → fits (framesOf task (j + 1)) ≡ false
+  pub too-many : mostTotalFrames - t .frames < n → fits (framesOf task (j + 1)) ≡ false
+  pub stays : n ≤ mostNetFrames → n ≤ mostTotalFrames - t .frames → Stays task net j a t g own
 
 -- g is the gate's record
-pub record Step (file : List ℕ) (net j : ℕ) (a : Areas) (t : Totals) (g : GateRecord) : Type 0 where
-  pub fed : Fed file g (a .directory) (a .times)
+pub record Step (task : Task) (net j : ℕ) (a : Areas) (t : Totals) (g : GateRecord) : Type 0 where
+  pub fed : Fed (task .file) g (a .directory) (a .times)
   pub frames-low : t .frames ≤ mostTotalFrames
   -- the times as the code lends them: the first n gathered
-  pub timed : {row : List ℕ} {most n : ℕ} → Put row (gateTimes (g .delay) (spans file (g .list) (g .entries) (a .directory) (a .times))) most n
-      → Timed file net j a t g (take (n - 0) (drop 0 row)) n
+  pub timed : {row : List ℕ} {most n : ℕ} → Put row (gateTimes (g .delay) (spans (task .file) (g .list) (g .entries) (a .directory) (a .times))) most n
+      → Timed task net j a t g (take (n - 0) (drop 0 row)) n
 
 -- ---- and why it holds
 
-module _ (file : List ℕ) {a : Areas} (given : Given file a) (j : ℕ) (l : j < gatesOf file) {net : ℕ} (own-net : net ≡ inputsOf file + j)
-    {t : Totals} (go : Going file j a t) {g : GateRecord} (ge : g ≡ recordOf file j) where
-  frames-sum : t .frames ≡ length (allTimes (framesOf file j))
+module _ (task : Task) {a : Areas} (given : Given task a) (j : ℕ) (l : j < gatesOf (task .file)) {net : ℕ} (own-net : net ≡ inputsOf (task .file) + j)
+    {t : Totals} (go : Going task j a t) {g : GateRecord} (ge : g ≡ recordOf (task .file) j) where
+  frames-sum : t .frames ≡ length (allTimes (framesOf task j))
   unfolding totalsOf
   frames-sum = ap (λ (x : Totals). x .frames) (go .totals)
 
-  fanins-sum : t .fanins ≡ length (allFanins (framesOf file j))
+  fanins-sum : t .fanins ≡ length (allFanins (framesOf task j))
   unfolding totalsOf
   fanins-sum = ap (λ (x : Totals). x .fanins) (go .totals)
 
-  last-is : t .last .0 ≡ latest (allTimes (framesOf file j))
+  last-is : t .last .0 ≡ latest (allTimes (framesOf task j))
   unfolding totalsOf
   last-is = ap (λ (x : Totals). x .last .0) (go .totals)
 
   frames-low : t .frames ≤ mostTotalFrames
-  frames-low = omega (arith, frames-sum, fits-total (framesOf file j) (go .fit))
+  frames-low = omega (arith, frames-sum, fits-total (framesOf task j) (go .fit))
 
   -- the nets so far
 
-  count : length (framesOf file j) ≡ inputsOf file + j
-  count = nets-count file (given .read) j (omega arith)
+  count : length (framesOf task j) ≡ inputsOf (task .file) + j
+  count = nets-count task (given .read) j (omega arith)
 
-  room : Room (framesOf file j) a
+  room : Room (framesOf task j) a
   room = given .room j (omega arith) (go .fit)
 
-  at : (n : ℕ) → n < inputsOf file + j → Spot (a .directory) (a .times) n (length (allTimes (framesOf file j))) (getD (framesOf file j) n noFrames .times)
-  at n h = spot-at (framesOf file j) (go .is) n (omega (arith, count))
+  at : (n : ℕ) → n < inputsOf (task .file) + j → Spot (a .directory) (a .times) n (length (allTimes (framesOf task j))) (getD (framesOf task j) n noFrames .times)
+  at n h = spot-at (framesOf task j) (go .is) n (omega (arith, count))
 
-  early : (n : ℕ) → n < inputsOf file + j → (k : ℕ) → getD (getD (framesOf file j) n noFrames .times) k 0 ≤ mostTime
-  early n h = frames-early (circuitOf file) (circuit-within file (given .read)) j (omega (arith, gates-length file)) n (omega (arith, circuit-inputs file))
+  early : (n : ℕ) → n < inputsOf (task .file) + j → (k : ℕ) → getD (getD (framesOf task j) n noFrames .times) k 0 ≤ mostTime
+  early n h = frames-early (circuitIn task) (circuit-within (task .file) (given .read)) j (omega (arith, gates-length (task .file))) n (omega (arith, circuit-inputs (task .file)))
 
   -- the gate's fan-ins
 
-  below : (e : ℕ) → e < g .entries → faninAt file (g .list) e < inputsOf file + j
-  below = rw ge (within file (given .read) j l .below)
+  below : (e : ℕ) → e < g .entries → faninAt (task .file) (g .list) e < inputsOf (task .file) + j
+  below = rw ge (within (task .file) (given .read) j l .below)
 
-  fed : Fed file g (a .directory) (a .times)
+  fed : Fed (task .file) g (a .directory) (a .times)
   fed =
-      let w = within file (given .read) j l in
+      let w = within (task .file) (given .read) j l in
       record {
         delay-least = rw ge (w .delay-least);
         delay-most = rw ge (w .delay-most);
         inertial-most = rw ge (w .inertial-most);
         entries-most = rw ge (w .entries-most);
         pair = λ e h. omega (arith, below e h, count, room .directory);
-        inside = λ e h. omega (arith, at (faninAt file (g .list) e) (below e h) .ends, room .times);
-        few = λ e h. omega (arith, at (faninAt file (g .list) e) (below e h) .size, fits-net (framesOf file j) (go .fit) (faninAt file (g .list) e));
+        inside = λ e h. omega (arith, at (faninAt (task .file) (g .list) e) (below e h) .ends, room .times);
+        few = λ e h. omega (arith, at (faninAt (task .file) (g .list) e) (below e h) .size, fits-net (framesOf task j) (go .fit) (faninAt (task .file) (g .list) e));
         starts = λ e h.
-            rw (at (faninAt file (g .list) e) (below e h) .times)
-            (starts-test (getD (framesOf file j) (faninAt file (g .list) e) noFrames .times) (times-start (firstGates j (circuitOf file)) (faninAt file (g .list) e)));
-        early = low-area mostTime (framesOf file j) (go .is) (λ n h. early n (omega (arith, count)));
+            rw (at (faninAt (task .file) (g .list) e) (below e h) .times)
+            (starts-test (getD (framesOf task j) (faninAt (task .file) (g .list) e) noFrames .times) (times-start (firstGates j (circuitIn task)) (faninAt (task .file) (g .list) e)));
+        early = low-area mostTime (framesOf task j) (go .is) (λ n h. early n (omega (arith, count)));
       }
 
   -- their spans are the times of their frames
-  spans-from : (list n m : ℕ) → ((k : ℕ) → m ≤ k → k < m + n → faninAt file list k < inputsOf file + j)
-      → map (partOf (a .directory) (a .times)) (tabulateFrom n m (faninAt file list))
-      ≡ map (λ (f : Frames). f .times) (map (λ (k : ℕ). getD (framesOf file j) k noFrames) (tabulateFrom n m (faninAt file list)))
+  spans-from : (list n m : ℕ) → ((k : ℕ) → m ≤ k → k < m + n → faninAt (task .file) list k < inputsOf (task .file) + j)
+      → map (partOf (a .directory) (a .times)) (tabulateFrom n m (faninAt (task .file) list))
+      ≡ map (λ (f : Frames). f .times) (map (λ (k : ℕ). getD (framesOf task j) k noFrames) (tabulateFrom n m (faninAt (task .file) list)))
   unfolding tabulateFrom
   spans-from list zero m h = refl
-  spans-from list (suc n) m h = ap₂ _∷_ (at (faninAt file list m) (h m (omega arith) (omega arith)) .times) (spans-from list n (suc m) (λ k x y. h k (omega arith) (omega arith)))
+  spans-from list (suc n) m h = ap₂ _∷_ (at (faninAt (task .file) list m) (h m (omega arith) (omega arith)) .times) (spans-from list n (suc m) (λ k x y. h k (omega arith) (omega arith)))
 
-  read : gateAt (circuitOf file) j ≡ gateFrom file g
-  read = rw ge (gate-read file (given .read) j l)
+  read : gateAt (circuitIn task) j ≡ gateFrom (task .file) g
+  read = rw ge (gate-read (task .file) (given .read) j l)
 
-  spans-are : spans file (g .list) (g .entries) (a .directory) (a .times) ≡ faninTimes (circuitOf file) j
+  spans-are : spans (task .file) (g .list) (g .entries) (a .directory) (a .times) ≡ faninTimes (circuitIn task) j
   spans-are = rw read (spans-from (g .list) (g .entries) 0 (λ k x y. below k (omega arith)))
 
   -- the gate's own times
 
-  own-times : gateTimes (g .delay) (spans file (g .list) (g .entries) (a .directory) (a .times)) ≡ nextFrames (circuitOf file) j .times
-  own-times = ap₂ gateTimes (ap (λ (x : Gate). x .delay) (sym read)) spans-are ∙ sym (next-times (circuitOf file) j)
+  own-times : gateTimes (g .delay) (spans (task .file) (g .list) (g .entries) (a .directory) (a .times)) ≡ nextFrames (circuitIn task) j .times
+  own-times = ap₂ gateTimes (ap (λ (x : Gate). x .delay) (sym read)) spans-are ∙ sym (next-times (circuitIn task) j)
 
-  own-starts : Starts (nextFrames (circuitOf file) j .times)
-  own-starts = rw (next-times (circuitOf file) j) (gateTimes-start (gateAt (circuitOf file) j .delay) (faninTimes (circuitOf file) j))
+  own-starts : Starts (nextFrames (circuitIn task) j .times)
+  own-starts = rw (next-times (circuitIn task) j) (gateTimes-start (gateAt (circuitIn task) j .delay) (faninTimes (circuitIn task) j))
 
-  own-early : (k : ℕ) → getD (nextFrames (circuitOf file) j .times) k 0 ≤ mostTime
+  own-early : (k : ℕ) → getD (nextFrames (circuitIn task) j .times) k 0 ≤ mostTime
   own-early k =
-      let e = frames-early (circuitOf file) (circuit-within file (given .read)) (j + 1) (omega (arith, gates-length file)) (inputsOf file + j) (omega (arith, circuit-inputs file)) k in
-      rw (nets-next file (given .read) j l, ← count, getD-append-seam (framesOf file j) (nextFrames (circuitOf file) j) [] noFrames) at e
+      let e = frames-early (circuitIn task) (circuit-within (task .file) (given .read)) (j + 1) (omega (arith, gates-length (task .file))) (inputsOf (task .file) + j) (omega (arith, circuit-inputs (task .file))) k in
+      rw (nets-next task (given .read) j l, ← count, getD-append-seam (framesOf task j) (nextFrames (circuitIn task) j) [] noFrames) at e
 
   -- as gate_times left them
-  module _ {row : List ℕ} {most n : ℕ} (p : Put row (gateTimes (g .delay) (spans file (g .list) (g .entries) (a .directory) (a .times))) most n) where
-    own-is : take (n - 0) (drop 0 row) ≡ nextFrames (circuitOf file) j .times
+  module _ {row : List ℕ} {most n : ℕ} (p : Put row (gateTimes (g .delay) (spans (task .file) (g .list) (g .entries) (a .directory) (a .times))) most n) where
+    own-is : take (n - 0) (drop 0 row) ≡ nextFrames (circuitIn task) j .times
     own-is = front row n ∙ p .is ∙ own-times
 
-    n-is : length (nextFrames (circuitOf file) j .times) ≡ n
+    n-is : length (nextFrames (circuitIn task) j .times) ≡ n
     n-is = rw (← own-times) (p .size)
 
-    too-long : mostNetFrames < n → fits (framesOf file (j + 1)) ≡ false
-    too-long h = rw (nets-next file (given .read) j l) (fits-long (framesOf file j) (nextFrames (circuitOf file) j) (omega (arith, n-is)))
+    too-long : mostNetFrames < n → fits (framesOf task (j + 1)) ≡ false
+    too-long h = rw (nets-next task (given .read) j l) (fits-long (framesOf task j) (nextFrames (circuitIn task) j) (omega (arith, n-is)))
 
-    too-many : mostTotalFrames - t .frames < n → fits (framesOf file (j + 1)) ≡ false
-    too-many h = rw (nets-next file (given .read) j l) (fits-many (framesOf file j) (nextFrames (circuitOf file) j) (omega (arith, n-is, frames-sum)))
+    too-many : mostTotalFrames - t .frames < n → fits (framesOf task (j + 1)) ≡ false
+    too-many h = rw (nets-next task (given .read) j l) (fits-many (framesOf task j) (nextFrames (circuitIn task) j) (omega (arith, n-is, frames-sum)))
 
     module _ (small : n ≤ mostNetFrames) (left : n ≤ mostTotalFrames - t .frames) where
-      fit-next : fits (framesOf file j ++ (nextFrames (circuitOf file) j ∷ [])) ≡ true
-      fit-next = fits-more (framesOf file j) (nextFrames (circuitOf file) j) (go .fit) (omega (arith, n-is)) (omega (arith, n-is, frames-low, frames-sum))
+      fit-next : fits (framesOf task j ++ (nextFrames (circuitIn task) j ∷ [])) ≡ true
+      fit-next = fits-more (framesOf task j) (nextFrames (circuitIn task) j) (go .fit) (omega (arith, n-is)) (omega (arith, n-is, frames-low, frames-sum))
 
-      room-next : Room (framesOf file j ++ (nextFrames (circuitOf file) j ∷ [])) a
-      room-next = rw (nets-next file (given .read) j l) at (given .room (j + 1) (omega arith) (rw (nets-next file (given .read) j l) fit-next))
+      room-next : Room (framesOf task j ++ (nextFrames (circuitIn task) j ∷ [])) a
+      room-next = rw (nets-next task (given .read) j l) at (given .room (j + 1) (omega arith) (rw (nets-next task (given .read) j l) fit-next))
 
-      total-next : length (allTimes (framesOf file j ++ (nextFrames (circuitOf file) j ∷ []))) ≡ t .frames + n
-      total-next = omega (arith, total-more (framesOf file j) (nextFrames (circuitOf file) j), n-is, frames-sum)
+      total-next : length (allTimes (framesOf task j ++ (nextFrames (circuitIn task) j ∷ []))) ≡ t .frames + n
+      total-next = omega (arith, total-more (framesOf task j) (nextFrames (circuitIn task) j), n-is, frames-sum)
 
-      fanins-next : length (allFanins (framesOf file j ++ (nextFrames (circuitOf file) j ∷ []))) ≡ t .fanins + n * g .entries
+      fanins-next : length (allFanins (framesOf task j ++ (nextFrames (circuitIn task) j ∷ []))) ≡ t .fanins + n * g .entries
       fanins-next =
-          fanins-more (framesOf file j) (nextFrames (circuitOf file) j)
-          ∙ ap₂ _+_ (sym fanins-sum) (next-count (circuitOf file) j ∙ ap₂ _*_ n-is (gate-entries file (given .read) j l ∙ ap (λ (x : GateRecord). x .entries) (sym ge)))
+          fanins-more (framesOf task j) (nextFrames (circuitIn task) j)
+          ∙ ap₂ _+_ (sym fanins-sum) (next-count (circuitIn task) j ∙ ap₂ _*_ n-is (gate-entries (task .file) (given .read) j l ∙ ap (λ (x : GateRecord). x .entries) (sym ge)))
 
       place : Place a net t n (g .entries)
       place =
-          let w : length (allFanins (framesOf file j ++ (nextFrames (circuitOf file) j ∷ []))) ≤ mostFanins * length (allTimes (framesOf file j ++ (nextFrames (circuitOf file) j ∷ []))) =
-          rw (nets-next file (given .read) j l) at (nets-sized file (given .read) (j + 1) (omega arith) .wide) in
+          let w : length (allFanins (framesOf task j ++ (nextFrames (circuitIn task) j ∷ []))) ≤ mostFanins * length (allTimes (framesOf task j ++ (nextFrames (circuitIn task) j ∷ []))) =
+          rw (nets-next task (given .read) j l) at (nets-sized task (given .read) (j + 1) (omega arith) .wide) in
           record {
-            directory = omega (arith, own-net, room-next .directory, length-append (framesOf file j) (nextFrames (circuitOf file) j ∷ []), count);
+            directory = omega (arith, own-net, room-next .directory, length-append (framesOf task j) (nextFrames (circuitIn task) j ∷ []), count);
             times = omega (arith, room-next .times, total-next);
             inertial = omega (arith, room-next .inertial, total-next);
             fanins = omega (arith, room-next .fanins, fanins-next);
@@ -191,58 +192,58 @@ module _ (file : List ℕ) {a : Areas} (given : Given file a) (j : ℕ) (l : j <
       times : Span (take (n - 0) (drop 0 row))
       times =
           record {
-            starts = rw own-is (starts-test (nextFrames (circuitOf file) j .times) own-starts);
+            starts = rw own-is (starts-test (nextFrames (circuitIn task) j .times) own-starts);
             few = omega (arith, own-length);
             early = λ k. rw own-is (own-early k);
           }
 
       -- what stands there after the gate is stored
-      module _ {a′ : Areas} {t′ : Totals} (st : Stored a a′ net t t′ (g .entries) (take (n - 0) (drop 0 row)) (inertialIndices (g .inertial) (take (n - 0) (drop 0 row))) (flatMap (faninRow (g .delay) (spans file (g .list) (g .entries) (a .directory) (a .times))) (take (n - 0) (drop 0 row)))) where
-        behind : Behind (framesOf file j) (nextFrames (circuitOf file) j) a a′
+      module _ {a′ : Areas} {t′ : Totals} (st : Stored a a′ net t t′ (g .entries) (take (n - 0) (drop 0 row)) (inertialIndices (g .inertial) (take (n - 0) (drop 0 row))) (flatMap (faninRow (g .delay) (spans (task .file) (g .list) (g .entries) (a .directory) (a .times))) (take (n - 0) (drop 0 row)))) where
+        behind : Behind (framesOf task j) (nextFrames (circuitIn task) j) a a′
         behind =
-            let even = nets-sized file (given .read) j (omega arith) .even in
-            let d : a′ .directory ≡ sets (a .directory) (2 * net) (t .frames ∷ length (nextFrames (circuitOf file) j .times) ∷ []) = rw (← own-is) (st .directory-is) in
+            let even = nets-sized task (given .read) j (omega arith) .even in
+            let d : a′ .directory ≡ sets (a .directory) (2 * net) (t .frames ∷ length (nextFrames (circuitIn task) j .times) ∷ []) = rw (← own-is) (st .directory-is) in
             record {
               directory = rw (count, ← own-net, ← frames-sum) d;
               times = rw (← frames-sum, ← own-is) (st .times-are);
               inertial =
                   st .inertial-is
-                  ∙ ap₂ (sets (a .inertial)) (frames-sum ∙ sym even) (ap₂ inertialIndices (ap (λ (x : Gate). x .inertial) (sym read)) own-is ∙ sym (next-inertial (circuitOf file) j));
+                  ∙ ap₂ (sets (a .inertial)) (frames-sum ∙ sym even) (ap₂ inertialIndices (ap (λ (x : Gate). x .inertial) (sym read)) own-is ∙ sym (next-inertial (circuitIn task) j));
               fanins =
                   st .fanins-are
                   ∙ ap₂ (sets (a .fanins)) fanins-sum
                   (ap₂ (λ (d : ℕ) (ss : List (List ℕ)). flatMap (faninRow d ss) (take (n - 0) (drop 0 row))) (ap (λ (x : Gate). x .delay) (sym read)) spans-are
-                  ∙ ap (flatMap (faninRow (gateAt (circuitOf file) j .delay) (faninTimes (circuitOf file) j))) own-is ∙ sym (next-rows (circuitOf file) j));
+                  ∙ ap (flatMap (faninRow (gateAt (circuitIn task) j .delay) (faninTimes (circuitIn task) j))) own-is ∙ sym (next-rows (circuitIn task) j));
             }
 
-        last-next : t′ .last .0 ≡ latest (allTimes (framesOf file j) ++ nextFrames (circuitOf file) j .times)
+        last-next : t′ .last .0 ≡ latest (allTimes (framesOf task j) ++ nextFrames (circuitIn task) j .times)
         last-next =
-            st .last-is ∙ ap₂ max last-is (rw own-is (sym (latest-is (nextFrames (circuitOf file) j .times) own-starts)))
-            ∙ sym (latest-append (allTimes (framesOf file j)) (nextFrames (circuitOf file) j .times))
+            st .last-is ∙ ap₂ max last-is (rw own-is (sym (latest-is (nextFrames (circuitIn task) j .times) own-starts)))
+            ∙ sym (latest-append (allTimes (framesOf task j)) (nextFrames (circuitIn task) j .times))
 
-        totals-next : t′ ≡ totalsOf (framesOf file j ++ (nextFrames (circuitOf file) j ∷ []))
+        totals-next : t′ ≡ totalsOf (framesOf task j ++ (nextFrames (circuitIn task) j ∷ []))
         unfolding totalsOf
         totals-next =
-            let f : length (allTimes (framesOf file j ++ (nextFrames (circuitOf file) j ∷ []))) ≡ t′ .frames = omega (arith, total-next, st .frames-sum, own-length) in
-            let w : length (allFanins (framesOf file j ++ (nextFrames (circuitOf file) j ∷ []))) ≡ t′ .fanins = fanins-next ∙ sym (st .fanins-sum ∙ rw own-length) in
-            rw (f, w, times-snoc (framesOf file j) (nextFrames (circuitOf file) j), ← last-next)
+            let f : length (allTimes (framesOf task j ++ (nextFrames (circuitIn task) j ∷ []))) ≡ t′ .frames = omega (arith, total-next, st .frames-sum, own-length) in
+            let w : length (allFanins (framesOf task j ++ (nextFrames (circuitIn task) j ∷ []))) ≡ t′ .fanins = fanins-next ∙ sym (st .fanins-sum ∙ rw own-length) in
+            rw (f, w, times-snoc (framesOf task j) (nextFrames (circuitIn task) j), ← last-next)
 
-        stepped : Going file (j + 1) a′ t′
+        stepped : Going task (j + 1) a′ t′
         stepped =
-            let next = nets-next file (given .read) j l in
+            let next = nets-next task (given .read) j l in
             record {
-              is = rw next (laid-snoc (framesOf file j) (nextFrames (circuitOf file) j) (go .is) behind room-next (nets-sized file (given .read) j (omega arith) .even) (next-even (circuitOf file) j));
+              is = rw next (laid-snoc (framesOf task j) (nextFrames (circuitIn task) j) (go .is) behind room-next (nets-sized task (given .read) j (omega arith) .even) (next-even (circuitIn task) j));
               totals = rw next totals-next;
               fit = rw next fit-next;
             }
 
-      stays : Stays file net j a t g (take (n - 0) (drop 0 row))
+      stays : Stays task net j a t g (take (n - 0) (drop 0 row))
       stays = record { times = times; gathered = front row n ∙ p .is; place = rw own-length place; stepped = stepped }
 
-    timed : Timed file net j a t g (take (n - 0) (drop 0 row)) n
+    timed : Timed task net j a t g (take (n - 0) (drop 0 row)) n
     timed = record { too-long = too-long; too-many = too-many; stays = stays }
 
-  pub step : Step file net j a t g
+  pub step : Step task net j a t g
   step = record { fed = fed; frames-low = frames-low; timed = timed }
 
 -- ---- what is reached
@@ -251,11 +252,11 @@ module _ (file : List ℕ) {a : Areas} (given : Given file a) (j : ℕ) (l : j <
 pub never : {t : Totals} → P.Planned t ≡ P.TooMany → ⊥
 never e = let z : _≡_ {A = ℕ} 0 1 = cc in omega arith
 
-pub reached-now : (file : List ℕ) (n : ℕ) (a : Areas) (t : Totals) → Going file n a t → Reached file n a (P.Planned t)
-reached-now file n a t h = record { planned = λ u e. (let q : t ≡ u = cc in rw q at h); stopped = λ e. absurd (never e) }
+pub reached-now : (task : Task) (n : ℕ) (a : Areas) (t : Totals) → Going task n a t → Reached task n a (P.Planned t)
+reached-now task n a t h = record { planned = λ u e. (let q : t ≡ u = cc in rw q at h); stopped = λ e. absurd (never e) }
 
-pub reached-many : (file : List ℕ) (n : ℕ) (a : Areas) → fits (framesOf file n) ≡ false → Reached file n a P.TooMany
-reached-many file n a h = record { planned = λ u e. absurd (never (sym e)); stopped = λ e. h }
+pub reached-many : (task : Task) (n : ℕ) (a : Areas) → fits (framesOf task n) ≡ false → Reached task n a P.TooMany
+reached-many task n a h = record { planned = λ u e. absurd (never (sym e)); stopped = λ e. h }
 
 -- ---- the areas are as long as before
 
@@ -268,5 +269,5 @@ pub record Alike (a a′ : Areas) : Type 0 where
 room-alike : {fs : List Frames} {a a′ : Areas} → Room fs a → Alike a a′ → Room fs a′
 room-alike r l = record { directory = rw (l .directory) (r .directory); times = rw (l .times) (r .times); inertial = rw (l .inertial) (r .inertial); fanins = rw (l .fanins) (r .fanins) }
 
-pub given-alike : {file : List ℕ} {a a′ : Areas} → Given file a → Alike a a′ → Given file a′
+pub given-alike : {task : Task} {a a′ : Areas} → Given task a → Alike a a′ → Given task a′
 given-alike g l = record { read = g .read; room = λ j h e. room-alike (g .room j h e) l }

@@ -2,6 +2,7 @@
 ghost use mathlib.Core.Path.{_≡_};
 ghost use Prim.Native.Nat.{_+_, _<_};
 ghost use Rattle.circuit.specs.File.{inputsOf, gatesOf};
+ghost use Rattle.circuit.specs.Task.{taskOf};
 ghost use Rattle.method.specs.Areas.{areas};
 ghost use Rattle.layout.specs.Steps.{Given, Going, Reached};
 use crate::MOST_FANINS;
@@ -29,9 +30,9 @@ pub(crate) fn add_gates(
     fanins: &mut [u16],
     start: Totals,
 ) -> Progress
-    requires { ⌜ Given (now file) (areas (now directory) (now times) (now inertial) (now fanins)) × (inputs ≡ inputsOf (now file)) × (gates ≡ gatesOf (now file)) ⌝ }
-    requires { ⌜ Going (now file) 0 (areas (now directory) (now times) (now inertial) (now fanins)) start ⌝ }
-    ensures { λ r. ⌜ Reached (now (file .entry)) gates (areas (now (directory .exit)) (now (times .exit)) (now (inertial .exit)) (now (fanins .exit))) r ⌝ }
+    requires { ⌜ Given (taskOf (now file)) (areas (now directory) (now times) (now inertial) (now fanins)) × (inputs ≡ inputsOf (now file)) × (gates ≡ gatesOf (now file)) ⌝ }
+    requires { ⌜ Going (taskOf (now file)) 0 (areas (now directory) (now times) (now inertial) (now fanins)) start ⌝ }
+    ensures { λ r. ⌜ Reached (taskOf (now (file .entry))) gates (areas (now (directory .exit)) (now (times .exit)) (now (inertial .exit)) (now (fanins .exit))) r ⌝ }
 {
     let mut totals = start;
     let mut j: u16 = 0;
@@ -66,9 +67,9 @@ fn add_gate(
     fanins: &mut [u16],
     totals: Totals,
 ) -> Progress
-    requires { ⌜ Given (now file) (areas (now directory) (now times) (now inertial) (now fanins)) × (j < gatesOf (now file)) × (net .0 ≡ inputsOf (now file) + j) ⌝ }
-    requires { ⌜ Going (now file) j (areas (now directory) (now times) (now inertial) (now fanins)) totals ⌝ }
-    ensures { λ r. ⌜ Reached (now (file .entry)) (j + 1) (areas (now (directory .exit)) (now (times .exit)) (now (inertial .exit)) (now (fanins .exit))) r ⌝ }
+    requires { ⌜ Given (taskOf (now file)) (areas (now directory) (now times) (now inertial) (now fanins)) × (j < gatesOf (now file)) × (net .0 ≡ inputsOf (now file) + j) ⌝ }
+    requires { ⌜ Going (taskOf (now file)) j (areas (now directory) (now times) (now inertial) (now fanins)) totals ⌝ }
+    ensures { λ r. ⌜ Reached (taskOf (now (file .entry))) (j + 1) (areas (now (directory .exit)) (now (times .exit)) (now (inertial .exit)) (now (fanins .exit))) r ⌝ }
 {
     let gate = circuit::gate_at(file, j);
     let first = totals.frames;

@@ -3,6 +3,7 @@ ghost use mathlib.Core.Path.{_≡_};
 ghost use Prim.Native.Nat.{_*_, _≤_};
 ghost use lib.ListN.{length};
 ghost use Rattle.circuit.specs.File.{inputsOf, gatesOf};
+ghost use Rattle.circuit.specs.Task.{taskOf};
 ghost use Rattle.circuit.specs.Limits.{mostInputs};
 ghost use Rattle.method.specs.Areas.{areas, allCleared};
 ghost use Rattle.method.specs.Sums.{totalsOf};
@@ -35,8 +36,8 @@ pub fn fill(
     inertial: &mut [u16],
     fanins: &mut [u16],
 ) -> Progress
-    requires { ⌜ Given (now file) (areas (now directory) (now times) (now inertial) (now fanins)) × (inputs ≡ inputsOf (now file)) × (gates ≡ gatesOf (now file)) ⌝ }
-    ensures { λ r. ⌜ Filled (now (file .entry)) (areas (now (directory .entry)) (now (times .entry)) (now (inertial .entry)) (now (fanins .entry))) (areas (now (directory .exit)) (now (times .exit)) (now (inertial .exit)) (now (fanins .exit))) r ⌝ }
+    requires { ⌜ Given (taskOf (now file)) (areas (now directory) (now times) (now inertial) (now fanins)) × (inputs ≡ inputsOf (now file)) × (gates ≡ gatesOf (now file)) ⌝ }
+    ensures { λ r. ⌜ Filled (taskOf (now (file .entry))) (areas (now (directory .entry)) (now (times .entry)) (now (inertial .entry)) (now (fanins .entry))) (areas (now (directory .exit)) (now (times .exit)) (now (inertial .exit)) (now (fanins .exit))) r ⌝ }
 {
     clear_all(directory, times, inertial, fanins);
     let start = add_inputs(directory, times, inputs);

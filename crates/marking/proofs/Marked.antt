@@ -7,16 +7,15 @@ use mathlib.Core.Bool.{Bool, true}
 use mathlib.Core.List.{List}
 use native.Mathlib.Omega.{arith}
 use lib.Dec.{leb}
-use lib.ListN.{length}
 use Rattle.lists.specs.Ladder.{firstNo, accepted, unless}
 use Rattle.lists.specs.Outcome.{outcome}
 use Rattle.lists.proofs.Ladders.{unless-none, unless-some}
 use Rattle.lists.proofs.Leaving.{left-none, accepted-left}
-use Rattle.circuit.specs.File.{circuitOf}
+use Rattle.method.specs.WordLists.{WordLists, Lengths, lengthsOf}
 use Rattle.circuit.specs.Questions.{readOf, inputsAndGatesOf}
+use Rattle.circuit.specs.Task.{Task, netsIn}
 use Rattle.circuit.proofs.Parts.{circuit-inputs, gates-length, few}
 use Rattle.engine.specs.Areas.{Areas, allCleared}
-use Rattle.method.specs.Values.{netCount}
 use Rattle.engine.specs.Questions.{firstQuestions}
 use Rattle.engine.specs.Run.{filled, runLeft}
 use Rattle.engine.specs.After.{LeftByRun}
@@ -28,8 +27,8 @@ use Rattle.expectations.specs.declared.Marking.{Marking}
 use Rattle.expectations.specs.declared.Marking.the-variants as M
 use Rattle.expectations.specs.Suits.{listSuits}
 use Rattle.marking.specs.Questions.{askedWith, questions}
-use Rattle.expectations.specs.Verdict.{Verdict, verdict, onPaper}
-use Rattle.marking.specs.Mark.{markOf}
+use Rattle.expectations.specs.Verdict.{Verdict, onPaper}
+use Rattle.marking.specs.Mark.{verdict, markOf}
 use Rattle.expectations.specs.Steps.{netsNeeded, searched}
 use Rattle.marking.specs.Steps.{Asked, asked, askedOf}
 use Rattle.expectations.proofs.Judging.{list-suits-by}
@@ -39,78 +38,78 @@ use Rattle.marking.proofs.Searching.{searched-is}
 -- ---- the nets that the list needs
 
 -- where 1 to 11 are answered yes, question 12 is whether there are as many
-needs-asked : (file : List ℕ) (a : Areas) (before after : ℕ) → firstNo (firstQuestions file a before after) ≡ 0 → (list : List Expectation)
-    → listSuits (netCount (circuitOf file)) list ≡ leb (netsNeeded list) (netCount (circuitOf file))
+needs-asked : (task : Task) (l : Lengths) (a : Areas) → firstNo (firstQuestions task l a) ≡ 0 → (list : List Expectation)
+    → listSuits (netsIn task) list ≡ leb (netsNeeded list) (netsIn task)
 unfolding readOf inputsAndGatesOf
-needs-asked file a before after e list =
-    let read = unless-none _ (inputsAndGatesOf file) (passed file a before after e .reads) in
-    let most = few file read in
-    list-suits-by (netCount (circuitOf file)) (omega (arith, circuit-inputs file, gates-length file, most)) list
+needs-asked task l a e list =
+    let read = unless-none _ (inputsAndGatesOf (task .file)) (passed task l a e .reads) in
+    let most = few (task .file) read in
+    list-suits-by (netsIn task) (omega (arith, circuit-inputs (task .file), gates-length (task .file), most)) list
 
 -- and where one of them is not, it does not matter
-same-ladder : (file : List ℕ) (a : Areas) (before after : ℕ) (list : List Expectation)
-    → firstNo (askedWith file a before after (leb (netsNeeded list) (netCount (circuitOf file)))) ≡ firstNo (questions file a before after list)
-same-ladder file a before after list = go (firstNo (firstQuestions file a before after)) refl
+same-ladder : (task : Task) (l : Lengths) (a : Areas) (list : List Expectation)
+    → firstNo (askedWith task l a (leb (netsNeeded list) (netsIn task))) ≡ firstNo (questions task l a list)
+same-ladder task l a list = go (firstNo (firstQuestions task l a)) refl
   where
-    go : (n : ℕ) → firstNo (firstQuestions file a before after) ≡ n → firstNo (askedWith file a before after (leb (netsNeeded list) (netCount (circuitOf file)))) ≡ firstNo (questions file a before after list)
-    go zero e = ap (λ (b : Bool). firstNo (askedWith file a before after b)) (sym (needs-asked file a before after e list))
+    go : (n : ℕ) → firstNo (firstQuestions task l a) ≡ n → firstNo (askedWith task l a (leb (netsNeeded list) (netsIn task))) ≡ firstNo (questions task l a list)
+    go zero e = ap (λ (b : Bool). firstNo (askedWith task l a b)) (sym (needs-asked task l a e list))
     go (suc n) e =
-        let some : firstNo (firstQuestions file a before after) ≡ 0 → ⊥ = λ z. omega (arith, e) in
-        ladder-early file a before after (leb (netsNeeded list) (netCount (circuitOf file))) some ∙ sym (ladder-early file a before after (listSuits (netCount (circuitOf file)) list) some)
+        let some : firstNo (firstQuestions task l a) ≡ 0 → ⊥ = λ z. omega (arith, e) in
+        ladder-early task l a (leb (netsNeeded list) (netsIn task)) some ∙ sym (ladder-early task l a (listSuits (netsIn task) list) some)
 
 -- ---- no question fails
 
-module _ (file before after : List ℕ) (a : Areas) (list : List Expectation) where
-  marks : {n : ℕ} → firstNo (questions file a (length before) (length after) list) ≡ n
-      → markOf file before after a list ≡ outcome (unless n (verdict (circuitOf file) before after list)) (runLeft n (circuitOf file) before after a)
+module _ (task : Task) (w : WordLists) (a : Areas) (list : List Expectation) where
+  marks : {n : ℕ} → firstNo (questions task (lengthsOf w) a list) ≡ n
+      → markOf task w a list ≡ outcome (unless n (verdict task w list)) (runLeft n task w a)
   unfolding markOf
   marks e = rw e
 
-  pub mark-accepts : firstNo (questions file a (length before) (length after) list) ≡ 0 → markOf file before after a list .answer ≡ accepted (verdict (circuitOf file) before after list)
+  pub mark-accepts : firstNo (questions task (lengthsOf w) a list) ≡ 0 → markOf task w a list .answer ≡ accepted (verdict task w list)
   unfolding markOf
-  mark-accepts e = unless-none _ (verdict (circuitOf file) before after list) e
+  mark-accepts e = unless-none _ (verdict task w list) e
 
   -- an accepted Mark: no question fails, and it leaves what Run leaves
-  module _ {v : Verdict} {b : Areas} (e : outcome (accepted v) b ≡ markOf file before after a list) where
-    accepts : (firstNo (questions file a (length before) (length after) list) ≡ 0) × (verdict (circuitOf file) before after list ≡ v) × (b ≡ filled (circuitOf file) before after a)
+  module _ {v : Verdict} {b : Areas} (e : outcome (accepted v) b ≡ markOf task w a list) where
+    accepts : (firstNo (questions task (lengthsOf w) a list) ≡ 0) × (verdict task w list ≡ v) × (b ≡ filled task w a)
     unfolding markOf
     accepts =
-        accepted-left (firstNo (questions file a (length before) (length after) list)) (verdict (circuitOf file) before after list) (filled (circuitOf file) before after a) (allCleared a) a e
+        accepted-left (firstNo (questions task (lengthsOf w) a list)) (verdict task w list) (filled task w a) (allCleared a) a e
 
-    pub verdict-is : v ≡ verdict (circuitOf file) before after list
+    pub verdict-is : v ≡ verdict task w list
     verdict-is = sym (accepts .1)
 
-    pub list-suits : listSuits (netCount (circuitOf file)) list ≡ true
-    list-suits = ladder-yes file a (length before) (length after) _ (accepts .0) .0
+    pub list-suits : listSuits (netsIn task) list ≡ true
+    list-suits = ladder-yes task (lengthsOf w) a _ (accepts .0) .0
 
-    pub mark-ran : LeftByRun file before after b
-    mark-ran = ran-filled file before after a (ladder-yes file a (length before) (length after) _ (accepts .0) .1) (accepts .2)
+    pub mark-ran : LeftByRun task w b
+    mark-ran = ran-filled task w a (ladder-yes task (lengthsOf w) a _ (accepts .0) .1) (accepts .2)
 
 -- ---- what `mark` answers
 
-module _ (file before after : List ℕ) (a : Areas) {b : Areas} (list : List Expectation) {needed r : ℕ}
-    (all : needed ≡ netsNeeded list) (ran : asked r b ≡ askedOf file before after a (leb needed (netCount (circuitOf file)))) where
-  number-is : firstNo (questions file a (length before) (length after) list) ≡ r
+module _ (task : Task) (w : WordLists) (a : Areas) {b : Areas} (list : List Expectation) {needed r : ℕ}
+    (all : needed ≡ netsNeeded list) (ran : asked r b ≡ askedOf task w a (leb needed (netsIn task))) where
+  number-is : firstNo (questions task (lengthsOf w) a list) ≡ r
   unfolding askedOf
   number-is =
       sym (ap (λ (x : Asked). x .number) ran
-      ∙ ap (λ (m : ℕ). firstNo (askedWith file a (length before) (length after) (leb m (netCount (circuitOf file))))) all
-      ∙ same-ladder file a (length before) (length after) list)
+      ∙ ap (λ (m : ℕ). firstNo (askedWith task (lengthsOf w) a (leb m (netsIn task)))) all
+      ∙ same-ladder task (lengthsOf w) a list)
 
-  left-is : b ≡ runLeft r (circuitOf file) before after a
+  left-is : b ≡ runLeft r task w a
   unfolding askedOf
   left-is =
       ap (λ (x : Asked). x .left) ran
-      ∙ ap (λ (m : ℕ). runLeft m (circuitOf file) before after a) (sym (ap (λ (x : Asked). x .number) ran))
+      ∙ ap (λ (m : ℕ). runLeft m task w a) (sym (ap (λ (x : Asked). x .number) ran))
 
-  pub mark-no : (r ≡ 0 → ⊥) → outcome (onPaper (M.Refused r)) b ≡ markOf file before after a list
+  pub mark-no : (r ≡ 0 → ⊥) → outcome (onPaper (M.Refused r)) b ≡ markOf task w a list
   unfolding onPaper
-  mark-no z = ap₂ outcome (sym (unless-some r (verdict (circuitOf file) before after list) z)) left-is ∙ sym (marks file before after a list number-is)
+  mark-no z = ap₂ outcome (sym (unless-some r (verdict task w list) z)) left-is ∙ sym (marks task w a list number-is)
 
-  pub mark-yes : r ≡ 0 → (x : Marking) → onPaper x ≡ accepted (searched (b .plan .directory) (b .plan .times) (b .values) list) → outcome (onPaper x) b ≡ markOf file before after a list
+  pub mark-yes : r ≡ 0 → (x : Marking) → onPaper x ≡ accepted (searched (b .plan .directory) (b .plan .times) (b .values) list) → outcome (onPaper x) b ≡ markOf task w a list
   mark-yes z x e =
-      let yes = ladder-yes file a (length before) (length after) _ (number-is ∙ z) in
-      let here : b ≡ filled (circuitOf file) before after a =
-      left-is ∙ ap (λ (m : ℕ). runLeft m (circuitOf file) before after a) z ∙ left-none (filled (circuitOf file) before after a) (allCleared a) a in
-      let found = searched-is file before after (after-runs .after-run file before after b (ran-filled file before after a (yes .1) here)) list (yes .0) in
-      ap₂ outcome (e ∙ ap accepted found ∙ sym (unless-none r (verdict (circuitOf file) before after list) z)) left-is ∙ sym (marks file before after a list number-is)
+      let yes = ladder-yes task (lengthsOf w) a _ (number-is ∙ z) in
+      let here : b ≡ filled task w a =
+      left-is ∙ ap (λ (m : ℕ). runLeft m task w a) z ∙ left-none (filled task w a) (allCleared a) a in
+      let found = searched-is task w (after-runs .after-run task w b (ran-filled task w a (yes .1) here)) list (yes .0) in
+      ap₂ outcome (e ∙ ap accepted found ∙ sym (unless-none r (verdict task w list) z)) left-is ∙ sym (marks task w a list number-is)

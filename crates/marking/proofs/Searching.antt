@@ -11,21 +11,19 @@ use lib.ListN.{length, getD, drop, drop-of-length-le}
 use lib.Seq.{drop-cons}
 use Rattle.lists.specs.Tables.{every}
 use Rattle.lists.proofs.Choices.{and-left, and-right}
-use Rattle.method.specs.Circuit.{Circuit}
-use Rattle.method.specs.Frames.{framesAt}
 use Rattle.method.specs.Words.{lane}
-use Rattle.method.specs.Packed.{laneOf}
 use Rattle.method.proofs.Tracing.{value-each}
 use Rattle.method.proofs.Lanes.{in-lanes}
-use Rattle.circuit.specs.File.{circuitOf}
 use Rattle.method.specs.Layout.{frameCount, partOf}
+use Rattle.method.specs.WordLists.{WordLists}
+use Rattle.circuit.specs.Task.{Task, circuitIn, netsIn, timesIn, stimuliIn, laneValues}
 use Rattle.looks.specs.Sight.{endBy, sightAt}
 use Rattle.engine.specs.Areas.{Areas}
-use Rattle.method.specs.Values.{netCount}
 use Rattle.engine.specs.After.{After}
 use Rattle.expectations.specs.declared.Expectation.{Expectation}
 use Rattle.expectations.specs.Suits.{suits, listSuits}
-use Rattle.expectations.specs.Verdict.{Verdict, place, lastsOver, expected, breaks, firstBreak, verdictFrom, netTimes, laneLevels, verdict}
+use Rattle.expectations.specs.Verdict.{Verdict, place, lastsOver, expected, breaks, firstBreak, verdictFrom}
+use Rattle.marking.specs.Mark.{verdict}
 use Rattle.expectations.proofs.Judging.{net-below, lane-below}
 use Rattle.expectations.specs.Steps.{endsAfter, brokenBy, breaksAt, searchedFrames, searchedFrom, searched}
 
@@ -58,40 +56,37 @@ module _ (d t v : List ℕ) (e : Expectation) (times : List ℕ) (levels : List 
 
 -- ---- the list
 
-module _ (file before after : List ℕ) {b : Areas} (h : After file before after b) where
-  abbrev c : Circuit
-  c = circuitOf file
-
+module _ (task : Task) (w : WordLists) {b : Areas} (h : After task w b) where
   abbrev d : List ℕ
   d = b .plan .directory
 
-  frames-found : (e : Expectation) → suits (netCount c) e ≡ true → (i : ℕ) (behind : Verdict)
+  frames-found : (e : Expectation) → suits (netsIn task) e ≡ true → (i : ℕ) (behind : Verdict)
       → searchedFrames d (b .plan .times) (b .values) e i (frameCount d (e .net .0)) 0 behind
-      ≡ firstBreak e i 0 (netTimes c (e .net .0)) (laneLevels c before after (e .lane) (e .net .0)) behind
+      ≡ firstBreak e i 0 (timesIn task (e .net .0)) (laneValues task w (e .lane) (e .net .0)) behind
   frames-found e y i behind =
       let n : ℕ = e .net .0 in
-      let below : n < netCount c = net-below (netCount c) e y in
-      let count : frameCount d n ≡ length (framesAt c n .times) = h .count-is n below in
-      frames-are d (b .plan .times) (b .values) e (netTimes c n) (laneLevels c before after (e .lane) n)
+      let below : n < netsIn task = net-below (netsIn task) e y in
+      let count : frameCount d n ≡ length (timesIn task n) = h .count-is n below in
+      frames-are d (b .plan .times) (b .values) e (timesIn task n) (laneValues task w (e .lane) n)
       (h .times-are n below)
-      (ap (map (lane (e .lane))) (h .values-are n below) ∙ in-lanes .own-values c before after (e .lane) (lane-below (netCount c) e y) n)
+      (ap (map (lane (e .lane))) (h .values-are n below) ∙ in-lanes .own-values (circuitIn task) w (e .lane) (lane-below (netsIn task) e y) n)
       (sym count)
-      (value-each c (laneOf (e .lane) before after) n ∙ sym count)
+      (value-each (circuitIn task) (stimuliIn task w (e .lane)) n ∙ sym count)
       i
       (frameCount d n)
       0
       (omega arith)
       behind
 
-  list-found : (i : ℕ) (list : List Expectation) → listSuits (netCount c) list ≡ true
+  list-found : (i : ℕ) (list : List Expectation) → listSuits (netsIn task) list ≡ true
       → searchedFrom d (b .plan .times) (b .values) i list
-      ≡ verdictFrom (netTimes c) (laneLevels c before after) i list
+      ≡ verdictFrom (timesIn task) (laneValues task w) i list
   unfolding listSuits searchedFrom verdictFrom
   list-found i [] y = refl
   list-found i (e ∷ list) y =
-      frames-found e (and-left (suits (netCount c) e) (every (map (suits (netCount c)) list)) y) i _
-      ∙ ap (firstBreak e i 0 (netTimes c (e .net .0)) (laneLevels c before after (e .lane) (e .net .0))) (list-found (suc i) list (and-right (suits (netCount c) e) (every (map (suits (netCount c)) list)) y))
+      frames-found e (and-left (suits (netsIn task) e) (every (map (suits (netsIn task)) list)) y) i _
+      ∙ ap (firstBreak e i 0 (timesIn task (e .net .0)) (laneValues task w (e .lane) (e .net .0))) (list-found (suc i) list (and-right (suits (netsIn task) e) (every (map (suits (netsIn task)) list)) y))
 
-  pub searched-is : (list : List Expectation) → listSuits (netCount (circuitOf file)) list ≡ true → searched (b .plan .directory) (b .plan .times) (b .values) list ≡ verdict (circuitOf file) before after list
+  pub searched-is : (list : List Expectation) → listSuits (netsIn task) list ≡ true → searched (b .plan .directory) (b .plan .times) (b .values) list ≡ verdict task w list
   unfolding verdict
   searched-is list y = list-found 0 list y

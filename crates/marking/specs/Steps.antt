@@ -1,10 +1,9 @@
 -- What Mark's own functions promise each other. A reader of Mark's promise may skip this file.
 use Prim.Native.Nat.{ℕ}
 use mathlib.Core.Bool.{Bool}
-use mathlib.Core.List.{List}
-use lib.ListN.{length}
 use Rattle.lists.specs.Ladder.{firstNo}
-use Rattle.circuit.specs.File.{circuitOf}
+use Rattle.method.specs.WordLists.{WordLists, lengthsOf}
+use Rattle.circuit.specs.Task.{Task}
 use Rattle.engine.specs.Areas.{Areas}
 use Rattle.engine.specs.Run.{runLeft}
 use Rattle.marking.specs.Questions.{askedWith}
@@ -18,7 +17,7 @@ abbrev pub asked : ℕ → Areas → Asked
 asked n a = record { number = n; left = a }
 
 -- where `suit` answers question 12
-unfoldable pub askedOf : List ℕ → List ℕ → List ℕ → Areas → Bool → Asked
-askedOf file before after a suit =
-    let n : ℕ = firstNo (askedWith file a (length before) (length after) suit) in
-    asked n (runLeft n (circuitOf file) before after a)
+unfoldable pub askedOf : Task → WordLists → Areas → Bool → Asked
+askedOf task w a suit =
+    let n : ℕ = firstNo (askedWith task (lengthsOf w) a suit) in
+    asked n (runLeft n task w a)

@@ -2,8 +2,8 @@
 ghost use mathlib.Core.Path.{_≡_};
 ghost use Rattle.engine.specs.Areas.{areas};
 ghost use lib.Dec.{leb};
-ghost use Rattle.method.specs.Values.{netCount};
-ghost use Rattle.circuit.specs.File.{circuitOf};
+ghost use Rattle.method.specs.WordLists.{wordLists};
+ghost use Rattle.circuit.specs.Task.{taskOf, netsIn};
 ghost use Rattle.marking.specs.Steps.{asked, askedOf};
 use circuit::Reading;
 use planner::Planning;
@@ -21,7 +21,7 @@ pub(crate) fn run_asked<'w, 'a>(
     after: &'a [u64],
     needed: u32,
 ) -> u8
-    ensures { λ r. ⌜ asked r (areas (now (directory .exit)) (now (times .exit)) (now (inertial .exit)) (now (fanins .exit)) (now (values .exit))) ≡ askedOf (now (file .entry)) (now (before .entry)) (now (after .entry)) (areas (now (directory .entry)) (now (times .entry)) (now (inertial .entry)) (now (fanins .entry)) (now (values .entry))) (leb needed (netCount (circuitOf (now (file .entry))))) ⌝ }
+    ensures { λ r. ⌜ asked r (areas (now (directory .exit)) (now (times .exit)) (now (inertial .exit)) (now (fanins .exit)) (now (values .exit))) ≡ askedOf (taskOf (now (file .entry))) (wordLists (now (before .entry)) (now (after .entry))) (areas (now (directory .entry)) (now (times .entry)) (now (inertial .entry)) (now (fanins .entry)) (now (values .entry))) (leb needed (netsIn (taskOf (now (file .entry))))) ⌝ }
 {
     let nets = match engine::questions(
         file,

@@ -1,6 +1,8 @@
 // Mark: a circuit is run, and the run is held against a list of expectations.
 ghost use mathlib.Core.Path.{_≡_};
 ghost use Rattle.lists.specs.Outcome.{outcome};
+ghost use Rattle.method.specs.WordLists.{wordLists};
+ghost use Rattle.circuit.specs.Task.{taskOf};
 ghost use Rattle.engine.specs.Areas.{areas};
 ghost use Rattle.expectations.specs.Verdict.{onPaper};
 ghost use Rattle.marking.specs.Mark.{markOf};
@@ -26,7 +28,7 @@ pub fn mark<'a>(
     after: &'a [u64],
     expectations: &'a [Expectation],
 ) -> Marking
-    ensures { λ r. ⌜ outcome (onPaper r) (areas (now (directory .exit)) (now (times .exit)) (now (inertial .exit)) (now (fanins .exit)) (now (values .exit))) ≡ markOf (now (file .entry)) (now (before .entry)) (now (after .entry)) (areas (now (directory .entry)) (now (times .entry)) (now (inertial .entry)) (now (fanins .entry)) (now (values .entry))) (now (expectations .entry)) ⌝ }
+    ensures { λ r. ⌜ outcome (onPaper r) (areas (now (directory .exit)) (now (times .exit)) (now (inertial .exit)) (now (fanins .exit)) (now (values .exit))) ≡ markOf (taskOf (now (file .entry))) (wordLists (now (before .entry)) (now (after .entry))) (areas (now (directory .entry)) (now (times .entry)) (now (inertial .entry)) (now (fanins .entry)) (now (values .entry))) (now (expectations .entry)) ⌝ }
 {
     // the list is walked first: so the areas are lent to be written once, for all questions and the run
     let needed = nets_needed(expectations);

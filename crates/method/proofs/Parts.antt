@@ -13,6 +13,7 @@ use Rattle.lists.proofs.Flat.{flat-next, flat-at}
 use Rattle.lists.proofs.Tabled.{from-length}
 use Rattle.method.specs.Circuit.{Circuit}
 use Rattle.method.specs.Frames.{Frames, frames, framesAt}
+use Rattle.method.specs.WordLists.{WordLists}
 use Rattle.method.specs.Packed.{packedValues}
 use Rattle.method.proofs.Netwise.{net-by-net}
 use Rattle.method.specs.Areas.{Areas}
@@ -28,12 +29,12 @@ none-before : (f : ℕ → List ℕ) (fs : List Frames) → length (flatten (tab
 unfolding flatten flatMap tabulateFrom
 none-before f fs = refl
 
-module _ (c : Circuit) (before after : List ℕ) where
+module _ (c : Circuit) (w : WordLists) where
   abbrev words : ℕ → List ℕ
-  words = packedValues c before after
+  words = packedValues c w
 
   -- a word a frame
-  pub word-each : (n : ℕ) → length (packedValues c before after n) ≡ length (framesAt c n .times)
+  pub word-each : (n : ℕ) → length (packedValues c w n) ≡ length (framesAt c n .times)
   unfolding packedValues
   word-each n = from-length (length (framesAt c n .times)) 0 _
 
@@ -46,26 +47,26 @@ module _ (c : Circuit) (before after : List ℕ) where
       ∙ ap₂ _+_ (words-before n (omega arith)) (word-each n)
       ∙ sym (ap length (times-next (frames c) n h) ∙ length-append (allTimes (take n (frames c))) (framesAt c n .times))
 
-  pub all-words : length (allValues c before after) ≡ length (allTimes (frames c))
+  pub all-words : length (allValues c w) ≡ length (allTimes (frames c))
   unfolding allValues
   all-words =
       words-before (netCount c) (omega (arith, nets-count c))
       ∙ ap (λ (l : List Frames). length (allTimes l)) (ap (λ (n : ℕ). take n (frames c)) (sym (nets-count c)) ∙ take-length (frames c))
 
   -- net n's words stand behind those of the nets before it
-  words-behind : (n size : ℕ) → n < netCount c → {area : List ℕ} → area ≡ padded size (allValues c before after)
-      → area ≡ flatten (tabulate n words) ++ (words n ++ (flatten (tabulateFrom (netCount c - (n + 1)) (n + 1) words) ++ replicate (size - length (allValues c before after)) 0))
+  words-behind : (n size : ℕ) → n < netCount c → {area : List ℕ} → area ≡ padded size (allValues c w)
+      → area ≡ flatten (tabulate n words) ++ (words n ++ (flatten (tabulateFrom (netCount c - (n + 1)) (n + 1) words) ++ replicate (size - length (allValues c w)) 0))
   unfolding padded allValues
   words-behind n size h {area} e =
-      let z : List ℕ = replicate (size - length (allValues c before after)) 0 in
+      let z : List ℕ = replicate (size - length (allValues c w)) 0 in
       let later = tabulateFrom (netCount c - (n + 1)) (n + 1) words in
       e ∙ ap (λ (l : List ℕ). l ++ z) (flat-at words (netCount c) n h)
       ∙ append-assoc (flatten (tabulate n words)) (words n ++ flatten later) z
       ∙ ap (λ (l : List ℕ). flatten (tabulate n words) ++ l) (append-assoc (words n) (flatten later) z)
 
   -- and its pair in the directory finds them
-  pub words-part : {p : Areas} → p ≡ laid (frames c) p → (n size : ℕ) → n < netCount c → {area : List ℕ} → area ≡ padded size (allValues c before after)
-      → partOf (p .directory) area n ≡ packedValues c before after n
+  pub words-part : {p : Areas} → p ≡ laid (frames c) p → (n size : ℕ) → n < netCount c → {area : List ℕ} → area ≡ padded size (allValues c w)
+      → partOf (p .directory) area n ≡ packedValues c w n
   words-part is n size h e =
       let l : n < length (frames c) = rw (nets-count c) h in
       part-at (frames c) is n l (flatten (tabulate n words)) (words n) _ (words-behind n size h e) (words-before n (omega arith)) (word-each n)

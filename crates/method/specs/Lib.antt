@@ -21,6 +21,7 @@ pub mod First
 pub mod Machine
 -- 64 lanes in a word.
 pub mod Words
+pub mod WordLists
 pub mod Packed
 pub mod Values
 -- What holds: proved under proofs/.

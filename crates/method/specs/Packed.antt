@@ -9,15 +9,16 @@ use Rattle.method.specs.Stimulus.{Stimuli}
 use Rattle.method.specs.Frames.{framesAt}
 use Rattle.method.specs.Traces.{traceAt}
 use Rattle.method.specs.Words.{lanes, lane, pack}
+use Rattle.method.specs.WordLists.{WordLists}
 
 -- the pattern pair of lane L: that lane's bits of each input's before word and after word
-abbrev pub laneOf : ℕ → List ℕ → List ℕ → Stimuli
-laneOf L before after i = record { before = lane L (getD before i 0); after = lane L (getD after i 0) }
+abbrev pub laneOf : ℕ → WordLists → Stimuli
+laneOf L w i = record { before = lane L (getD (w .before) i 0); after = lane L (getD (w .after) i 0) }
 
 -- the word of frame k of net n: in every lane the value of that lane's own trace
-unfoldable pub packedWord : Circuit → List ℕ → List ℕ → ℕ → ℕ → ℕ
-packedWord c before after n k = pack lanes (λ (L : ℕ). getD (traceAt c (laneOf L before after) n .values) k false)
+unfoldable pub packedWord : Circuit → WordLists → ℕ → ℕ → ℕ
+packedWord c w n k = pack lanes (λ (L : ℕ). getD (traceAt c (laneOf L w) n .values) k false)
 
 -- the words of net n, frame by frame
-unfoldable pub packedValues : Circuit → List ℕ → List ℕ → ℕ → List ℕ
-packedValues c before after n = tabulate (length (framesAt c n .times)) (packedWord c before after n)
+unfoldable pub packedValues : Circuit → WordLists → ℕ → List ℕ
+packedValues c w n = tabulate (length (framesAt c n .times)) (packedWord c w n)

@@ -4,11 +4,12 @@ use mathlib.Core.List.{List, flatten}
 use lib.ListN.{length}
 use Rattle.lists.specs.Tables.{tabulate}
 use Rattle.method.specs.Circuit.{Circuit}
+use Rattle.method.specs.WordLists.{WordLists}
 use Rattle.method.specs.Packed.{packedValues}
 
 -- how many nets there are: I inputs and G gates
 abbrev pub netCount : Circuit → ℕ
 netCount c = c .inputs + length (c .gates)
 
-unfoldable pub allValues : Circuit → List ℕ → List ℕ → List ℕ
-allValues c before after = flatten (tabulate (netCount c) (packedValues c before after))
+unfoldable pub allValues : Circuit → WordLists → List ℕ
+allValues c w = flatten (tabulate (netCount c) (packedValues c w))

@@ -3,7 +3,7 @@
 use Prim.Native.Nat.{ℕ, _≤_}
 use mathlib.Core.Path.{_≡_, refl, sym, _∙_}
 use mathlib.Core.Bool.{Bool, true, false, not}
-use mathlib.Core.List.{List, []}
+use mathlib.Core.List.{[]}
 use native.Mathlib.Omega.{arith}
 use lib.Dec.{eqb}
 use lib.ListN.{length}
@@ -13,11 +13,11 @@ use Rattle.lists.specs.Outcome.{leftBy, outcome}
 use Rattle.lists.proofs.Choices.{and-left, and-right}
 use Rattle.lists.proofs.Ladders.{isNumber, numbered, each-append, first, first-here, first-none, firstNo-append, asked, ask-yes, ask-no, all-asked, accepted-none, refused-some, unless-none, unless-some}
 use Rattle.lists.proofs.Leaving.{left-none, left-clear, left-other, left-quiet, accepted-left}
-use Rattle.method.specs.Frames.{frames}
-use Rattle.circuit.specs.File.{inputsOf, gatesOf, circuitOf}
+use Rattle.circuit.specs.File.{inputsOf, gatesOf}
 use Rattle.circuit.specs.declared.Reading.{Reading}
 use Rattle.circuit.specs.declared.Reading.the-variants as R
 use Rattle.circuit.specs.Questions as reader
+use Rattle.circuit.specs.Task.{Task, circuitIn, framesIn}
 use Rattle.circuit.proofs.Gated.{questions-quiet, questions-numbered}
 use Rattle.circuit.proofs.Parts.{gates-length, inputs-are, gates-are, few, reading-accepted}
 use Rattle.method.specs.declared.Totals.{Totals}
@@ -51,115 +51,115 @@ suited a e =
       eqb-true _ _ (and-right (eqb (length (a .inertial)) timesLength) _ e3),
     )
 
-pub given-all : (file : List ℕ) (a : Areas) → reader.readOf file ≡ accepted (record { inputs = inputsOf file; gates = gatesOf file }) → areasSuit a ≡ true → Given file a
-given-all file a e y =
+pub given-all : (task : Task) (a : Areas) → reader.readOf (task .file) ≡ accepted (record { inputs = inputsOf (task .file); gates = gatesOf (task .file) }) → areasSuit a ≡ true → Given task a
+given-all task a e y =
     let l = suited a y in
-    let n = few file e in
+    let n = few (task .file) e in
     record {
       read = e;
       room = λ j h fit.
-          let total : length (allTimes (framesOf file j)) ≤ mostTotalFrames = fits-total (framesOf file j) fit in
+          let total : length (allTimes (framesOf task j)) ≤ mostTotalFrames = fits-total (framesOf task j) fit in
           record {
-            directory = omega (arith, nets-count file e j h);
+            directory = omega (arith, nets-count task e j h);
             times = omega arith;
             inertial = omega arith;
-            fanins = omega (arith, nets-sized file e j h .wide);
+            fanins = omega (arith, nets-sized task e j h .wide);
           };
     }
 
-pub plan-room : (file : List ℕ) (a : Areas) → reader.readOf file ≡ accepted (record { inputs = inputsOf file; gates = gatesOf file }) → areasSuit a ≡ true → fits (frames (circuitOf file)) ≡ true
-    → Room (frames (circuitOf file)) a
-plan-room file a e y fit =
-    let all = frames-all (circuitOf file) (gatesOf file) (sym (gates-length file)) in
-    rw all at (given-all file a e y .room (gatesOf file) (omega arith) (rw all fit))
+pub plan-room : (task : Task) (a : Areas) → reader.readOf (task .file) ≡ accepted (record { inputs = inputsOf (task .file); gates = gatesOf (task .file) }) → areasSuit a ≡ true → fits (framesIn task) ≡ true
+    → Room (framesIn task) a
+plan-room task a e y fit =
+    let all = frames-all (circuitIn task) (gatesOf (task .file)) (sym (gates-length (task .file))) in
+    rw all at (given-all task a e y .room (gatesOf (task .file)) (omega arith) (rw all fit))
 
-module _ (file : List ℕ) (read : reader.readOf file ≡ accepted (record { inputs = inputsOf file; gates = gatesOf file })) where
+module _ (task : Task) (read : reader.readOf (task .file) ≡ accepted (record { inputs = inputsOf (task .file); gates = gatesOf (task .file) })) where
   -- as many inertial indices as times
-  even-rows : length (allInertial (frames (circuitOf file))) ≡ length (allTimes (frames (circuitOf file)))
-  even-rows = rw (frames-all (circuitOf file) (gatesOf file) (sym (gates-length file))) at (nets-sized file read (gatesOf file) (omega arith) .even)
+  even-rows : length (allInertial (framesIn task)) ≡ length (allTimes (framesIn task))
+  even-rows = rw (frames-all (circuitIn task) (gatesOf (task .file)) (sym (gates-length (task .file)))) at (nets-sized task read (gatesOf (task .file)) (omega arith) .even)
 
-  module _ (a : Areas) (y : areasSuit a ≡ true) (fit : fits (frames (circuitOf file)) ≡ true) {a′ : Areas} (is : a′ ≡ laid (frames (circuitOf file)) a) where
+  module _ (a : Areas) (y : areasSuit a ≡ true) (fit : fits (framesIn task) ≡ true) {a′ : Areas} (is : a′ ≡ laid (framesIn task) a) where
     -- so the areas that hold the plan of an accepted file hold it at their own lengths
-    pub plan-kept : a′ ≡ laid (frames (circuitOf file)) a′
-    plan-kept = laid-kept (frames (circuitOf file)) is (plan-room file a read y fit) even-rows
+    pub plan-kept : a′ ≡ laid (framesIn task) a′
+    plan-kept = laid-kept (framesIn task) is (plan-room task a read y fit) even-rows
 
     -- and keep the lengths of question 10
     pub plan-lengths : areasSuit a′ ≡ true
     unfolding areasSuit
     plan-lengths =
-        let l = laid-lengths (frames (circuitOf file)) a (plan-room file a read y fit) even-rows in
+        let l = laid-lengths (framesIn task) a (plan-room task a read y fit) even-rows in
         rw (is, l .0, l .1, l .2, l .3) y
 
 -- ---- the ladder
 
-module _ (file : List ℕ) (a : Areas) where
+module _ (task : Task) (a : Areas) where
   -- what the first "no" leaves
   abbrev left : ℕ → Areas
-  left n = leftBy n (laid (frames (circuitOf file)) a) (allCleared a) a
+  left n = leftBy n (laid (framesIn task) a) (allCleared a) a
 
-  planned : {n : ℕ} → firstNo (questions file a) ≡ n → planOf file a ≡ outcome (unless n (totalsOf (frames (circuitOf file)))) (left n)
+  planned : {n : ℕ} → firstNo (questions task a) ≡ n → planOf task a ≡ outcome (unless n (totalsOf (framesIn task))) (left n)
   unfolding planOf
   planned e = rw e
 
-  refusal : {n : ℕ} → firstNo (questions file a) ≡ n → 1 ≤ n → {b : Areas} → b ≡ left n → outcome (onPaper (Q.Refused n)) b ≡ planOf file a
+  refusal : {n : ℕ} → firstNo (questions task a) ≡ n → 1 ≤ n → {b : Areas} → b ≡ left n → outcome (onPaper (Q.Refused n)) b ≡ planOf task a
   unfolding onPaper
-  refusal {n} e h l = sym (planned e ∙ rw (unless-some n (totalsOf (frames (circuitOf file))) (λ z. omega arith), ← l))
+  refusal {n} e h l = sym (planned e ∙ rw (unless-some n (totalsOf (framesIn task)) (λ z. omega arith), ← l))
 
-  pub plan-numbered : numbered (questions file a) ≡ true
+  pub plan-numbered : numbered (questions task a) ≡ true
   unfolding questions
-  plan-numbered = each-append isNumber (reader.questions file) (ownQuestions file a) (questions-numbered file) refl
+  plan-numbered = each-append isNumber (reader.questions (task .file)) (ownQuestions task a) (questions-numbered (task .file)) refl
 
-  joined : firstNo (questions file a) ≡ first (firstNo (reader.questions file)) (firstNo (ownQuestions file a))
+  joined : firstNo (questions task a) ≡ first (firstNo (reader.questions (task .file))) (firstNo (ownQuestions task a))
   unfolding questions
-  joined = firstNo-append (reader.questions file) (ownQuestions file a) (questions-numbered file)
+  joined = firstNo-append (reader.questions (task .file)) (ownQuestions task a) (questions-numbered (task .file))
 
   -- what an acceptance says: the file is accepted, its frames fit, and the areas have the lengths of question 10 and are
   -- laid out
-  module _ {totals : Totals} {b : Areas} (e : outcome (accepted totals) b ≡ planOf file a) where
-    says : (firstNo (questions file a) ≡ 0) × (totalsOf (frames (circuitOf file)) ≡ totals) × (b ≡ laid (frames (circuitOf file)) a)
+  module _ {totals : Totals} {b : Areas} (e : outcome (accepted totals) b ≡ planOf task a) where
+    says : (firstNo (questions task a) ≡ 0) × (totalsOf (framesIn task) ≡ totals) × (b ≡ laid (framesIn task) a)
     unfolding planOf
-    says = accepted-left (firstNo (questions file a)) (totalsOf (frames (circuitOf file))) (laid (frames (circuitOf file)) a) (allCleared a) a e
+    says = accepted-left (firstNo (questions task a)) (totalsOf (framesIn task)) (laid (framesIn task) a) (allCleared a) a e
 
-    parts : (firstNo (reader.questions file) ≡ 0) × (firstNo (ownQuestions file a) ≡ 0)
-    parts = first-none (firstNo (reader.questions file)) (firstNo (ownQuestions file a)) (sym joined ∙ says .0)
+    parts : (firstNo (reader.questions (task .file)) ≡ 0) × (firstNo (ownQuestions task a) ≡ 0)
+    parts = first-none (firstNo (reader.questions (task .file))) (firstNo (ownQuestions task a)) (sym joined ∙ says .0)
 
-    own : (areasSuit a ≡ true) × (firstNo (lastQuestion file) ≡ 0)
-    own = asked (areasSuit a) 10 (lastQuestion file) (λ z. omega arith) (parts .1)
+    own : (areasSuit a ≡ true) × (firstNo (lastQuestion task) ≡ 0)
+    own = asked (areasSuit a) 10 (lastQuestion task) (λ z. omega arith) (parts .1)
 
-    plan-fits : fits (frames (circuitOf file)) ≡ true
-    plan-fits = asked (fits (frames (circuitOf file))) 13 [] (λ z. omega arith) (own .1) .0
+    plan-fits : fits (framesIn task) ≡ true
+    plan-fits = asked (fits (framesIn task)) 13 [] (λ z. omega arith) (own .1) .0
 
-    pub accepted-read : reader.readOf file ≡ accepted (record { inputs = inputsOf file; gates = gatesOf file })
+    pub accepted-read : reader.readOf (task .file) ≡ accepted (record { inputs = inputsOf (task .file); gates = gatesOf (task .file) })
     unfolding reader.readOf reader.inputsAndGatesOf
-    accepted-read = unless-none (firstNo (reader.questions file)) (reader.inputsAndGatesOf file) (parts .0)
+    accepted-read = unless-none (firstNo (reader.questions (task .file))) (reader.inputsAndGatesOf (task .file)) (parts .0)
 
-    pub accepted-kept : b ≡ laid (frames (circuitOf file)) b
-    accepted-kept = plan-kept file accepted-read a (own .0) plan-fits (says .2)
+    pub accepted-kept : b ≡ laid (framesIn task) b
+    accepted-kept = plan-kept task accepted-read a (own .0) plan-fits (says .2)
 
     pub accepted-lengths : areasSuit b ≡ true
-    accepted-lengths = plan-lengths file accepted-read a (own .0) plan-fits (says .2)
+    accepted-lengths = plan-lengths task accepted-read a (own .0) plan-fits (says .2)
 
-  module _ {r : Reading} (f : reader.onPaper r ≡ reader.readOf file) where
+  module _ {r : Reading} (f : reader.onPaper r ≡ reader.readOf (task .file)) where
     -- 1 to 9
-    pub plan-read : {n : ℕ} → r ≡ R.Refused n → outcome (onPaper (Q.Refused n)) a ≡ planOf file a
+    pub plan-read : {n : ℕ} → r ≡ R.Refused n → outcome (onPaper (Q.Refused n)) a ≡ planOf task a
     unfolding reader.onPaper reader.readOf
     plan-read {n} e =
-        let g : unless (firstNo (reader.questions file)) (reader.inputsAndGatesOf file) ≡ refused n = sym f ∙ rw e in
-        let q = refused-some (firstNo (reader.questions file)) (reader.inputsAndGatesOf file) g in
-        let m : firstNo (questions file a) ≡ n = joined ∙ rw (q .0) (first-here n _ (λ z. omega (arith, q .1))) in
-        refusal m (q .1) (sym (left-quiet _ _ a (reader.questions file) (questions-quiet file) (sym (q .0)) (λ z. omega (arith, q .1))))
+        let g : unless (firstNo (reader.questions (task .file))) (reader.inputsAndGatesOf (task .file)) ≡ refused n = sym f ∙ rw e in
+        let q = refused-some (firstNo (reader.questions (task .file))) (reader.inputsAndGatesOf (task .file)) g in
+        let m : firstNo (questions task a) ≡ n = joined ∙ rw (q .0) (first-here n _ (λ z. omega (arith, q .1))) in
+        refusal m (q .1) (sym (left-quiet _ _ a (reader.questions (task .file)) (questions-quiet (task .file)) (sym (q .0)) (λ z. omega (arith, q .1))))
 
     module _ {inputs gates : ℕ} (e : r ≡ R.Accepted inputs gates) where
-      answered : reader.readOf file ≡ accepted (record { inputs = inputs; gates = gates })
-      answered = reading-accepted file f e
+      answered : reader.readOf (task .file) ≡ accepted (record { inputs = inputs; gates = gates })
+      answered = reading-accepted (task .file) f e
 
-      rest : firstNo (questions file a) ≡ firstNo (ownQuestions file a)
+      rest : firstNo (questions task a) ≡ firstNo (ownQuestions task a)
       unfolding reader.readOf
       rest =
-          let q : firstNo (reader.questions file) ≡ 0 = accepted-none (firstNo (reader.questions file)) (reader.inputsAndGatesOf file) answered .0 in
+          let q : firstNo (reader.questions (task .file)) ≡ 0 = accepted-none (firstNo (reader.questions (task .file))) (reader.inputsAndGatesOf (task .file)) answered .0 in
           joined ∙ rw q
 
-      pub plan-10 : {ok : Bool} → ok ≡ areasSuit a → not ok ≡ true → outcome (onPaper (Q.Refused 10)) a ≡ planOf file a
+      pub plan-10 : {ok : Bool} → ok ≡ areasSuit a → not ok ≡ true → outcome (onPaper (Q.Refused 10)) a ≡ planOf task a
       plan-10 {ok} is n =
           refusal (rest ∙ ask-no (areasSuit a) 10 _ (sym is ∙ not-true ok n)) (omega arith) (sym (left-other _ _ a 10 (λ z. omega arith) refl))
 
@@ -168,20 +168,20 @@ module _ (file : List ℕ) (a : Areas) where
         suits = sym is ∙ not-false ok y
 
         -- what filling asks
-        pub fill-given : Given file a × (inputs ≡ inputsOf file) × (gates ≡ gatesOf file)
+        pub fill-given : Given task a × (inputs ≡ inputsOf (task .file)) × (gates ≡ gatesOf (task .file))
         fill-given =
-            let i = inputs-are file answered in
-            let g = gates-are file answered in
-            (given-all file a (answered ∙ rw (i, g)) suits, i, g)
+            let i = inputs-are (task .file) answered in
+            let g = gates-are (task .file) answered in
+            (given-all task a (answered ∙ rw (i, g)) suits, i, g)
 
-        module _ {q : Progress} {b : Areas} (h : Filled file a b q) where
-          pub plan-13 : q ≡ P.TooMany → outcome (onPaper (Q.Refused 13)) b ≡ planOf file a
+        module _ {q : Progress} {b : Areas} (h : Filled task a b q) where
+          pub plan-13 : q ≡ P.TooMany → outcome (onPaper (Q.Refused 13)) b ≡ planOf task a
           plan-13 z =
-              refusal (rest ∙ ask-yes (areasSuit a) 10 _ suits ∙ ask-no (fits (frames (circuitOf file))) 13 [] (h .stopped z)) (omega arith)
+              refusal (rest ∙ ask-yes (areasSuit a) 10 _ suits ∙ ask-no (fits (framesIn task)) 13 [] (h .stopped z)) (omega arith)
               (h .emptied z ∙ sym (left-clear _ _ a 13 (λ z. omega arith) refl))
 
-          pub plan-yes : {t : Totals} → q ≡ P.Planned t → outcome (onPaper (Q.Planned t)) b ≡ planOf file a
+          pub plan-yes : {t : Totals} → q ≡ P.Planned t → outcome (onPaper (Q.Planned t)) b ≡ planOf task a
           unfolding onPaper
           plan-yes {t} z =
-              let m : firstNo (questions file a) ≡ 0 = rest ∙ ask-yes (areasSuit a) 10 _ suits ∙ ask-yes (fits (frames (circuitOf file))) 13 [] (h .fit t z) ∙ all-asked in
-              sym (planned m ∙ rw (unless-none 0 (totalsOf (frames (circuitOf file))) refl, left-none (laid (frames (circuitOf file)) a) (allCleared a) a, ← h .filled t z, ← h .totals t z))
+              let m : firstNo (questions task a) ≡ 0 = rest ∙ ask-yes (areasSuit a) 10 _ suits ∙ ask-yes (fits (framesIn task)) 13 [] (h .fit t z) ∙ all-asked in
+              sym (planned m ∙ rw (unless-none 0 (totalsOf (framesIn task)) refl, left-none (laid (framesIn task) a) (allCleared a) a, ← h .filled t z, ← h .totals t z))

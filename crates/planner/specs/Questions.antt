@@ -1,13 +1,11 @@
 -- Plan's questions in their order: the reader's 1 to 9, then 10 and 13.
-use Prim.Native.Nat.{ℕ}
 use mathlib.Core.Bool.{Bool, _&&_}
 use mathlib.Core.List.{List, [], _∷_, _++_}
 use lib.ListN.{length}
 use lib.Dec.{eqb}
 use Rattle.lists.specs.Ladder.{Question, _orElse_}
-use Rattle.method.specs.Frames.{frames}
-use Rattle.circuit.specs.File.{circuitOf}
 use Rattle.circuit.specs.Questions as reader
+use Rattle.circuit.specs.Task.{Task, framesIn}
 use Rattle.method.specs.Sums.{fits}
 use Rattle.planner.specs.Limits.{directoryLength, timesLength, faninsLength}
 use Rattle.method.specs.Areas.{Areas}
@@ -20,12 +18,12 @@ areasSuit a =
     && (eqb (length (a .inertial)) timesLength && eqb (length (a .fanins)) faninsLength))
 
 -- the last question of every call that plans
-abbrev pub lastQuestion : List ℕ → List Question
-lastQuestion file = (fits (frames (circuitOf file)) orElse 13) ∷ []
+abbrev pub lastQuestion : Task → List Question
+lastQuestion task = (fits (framesIn task) orElse 13) ∷ []
 
 -- Plan's own questions
-abbrev pub ownQuestions : List ℕ → Areas → List Question
-ownQuestions file a = (areasSuit a orElse 10) ∷ lastQuestion file
+abbrev pub ownQuestions : Task → Areas → List Question
+ownQuestions task a = (areasSuit a orElse 10) ∷ lastQuestion task
 
-unfoldable pub questions : List ℕ → Areas → List Question
-questions file a = reader.questions file ++ ownQuestions file a
+unfoldable pub questions : Task → Areas → List Question
+questions task a = reader.questions (task .file) ++ ownQuestions task a

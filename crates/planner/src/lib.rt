@@ -2,6 +2,7 @@
 ghost use mathlib.Core.Path.{_≡_};
 ghost use Rattle.lists.specs.Outcome.{outcome};
 ghost use Rattle.method.specs.Areas.{areas};
+ghost use Rattle.circuit.specs.Task.{taskOf};
 ghost use Rattle.planner.specs.Questions.{areasSuit};
 ghost use Rattle.planner.specs.Plan.{onPaper, planOf};
 use circuit::Reading;
@@ -29,7 +30,7 @@ pub fn plan(
     inertial: &mut [u16],
     fanins: &mut [u16],
 ) -> Planning
-    ensures { λ r. ⌜ outcome (onPaper r) (areas (now (directory .exit)) (now (times .exit)) (now (inertial .exit)) (now (fanins .exit))) ≡ planOf (now (file .entry)) (areas (now (directory .entry)) (now (times .entry)) (now (inertial .entry)) (now (fanins .entry))) ⌝ }
+    ensures { λ r. ⌜ outcome (onPaper r) (areas (now (directory .exit)) (now (times .exit)) (now (inertial .exit)) (now (fanins .exit))) ≡ planOf (taskOf (now (file .entry))) (areas (now (directory .entry)) (now (times .entry)) (now (inertial .entry)) (now (fanins .entry))) ⌝ }
 {
     match circuit::read(file) {
         Reading::Refused(n) => Planning::Refused(n),

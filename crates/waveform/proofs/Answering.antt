@@ -14,11 +14,13 @@ use Rattle.lists.specs.Ladder.{Question, _orElse_, firstNo, accepted}
 use Rattle.lists.specs.Outcome.{outcome}
 use Rattle.lists.proofs.Choices.{zero-or, bool-ext, and-left, and-both}
 use Rattle.lists.proofs.Ladders.{first, first-none, firstNo-append, asked, ask-yes, unless-none, refused-some}
+use Rattle.method.specs.WordLists.{WordLists, Lengths, wordLists, lengthsOf}
 use Rattle.circuit.specs.File.{inputsOf, circuitOf}
 use Rattle.circuit.specs.Limits.{mostInputs, mostGates}
 use Rattle.circuit.specs.declared.Reading.{Reading}
 use Rattle.circuit.specs.declared.Reading.the-variants as R
 use Rattle.circuit.specs.Questions as reader
+use Rattle.circuit.specs.Task.{Task, taskOf, netsIn, framesIn}
 use Rattle.circuit.proofs.Gated.{questions-numbered}
 use Rattle.circuit.proofs.Accepted.{Head, passed}
 use Rattle.circuit.proofs.Parts.{circuit-inputs, gates-length, reading-accepted, inputs-are, gates-are, few}
@@ -26,7 +28,6 @@ use Rattle.planner.specs.declared.Planning.{Planning}
 use Rattle.planner.specs.declared.Planning.the-variants as Q
 use Rattle.method.specs.declared.Totals.{Totals}
 use Rattle.planner.specs.Plan.{onPaper}
-use Rattle.method.specs.Frames.{frames}
 use Rattle.method.specs.Sums.{fits}
 use Rattle.planner.specs.Questions.{lastQuestion}
 use Rattle.planner.specs.Questions as planner
@@ -34,13 +35,12 @@ use Rattle.method.proofs.Fitting.{fits-total}
 use Rattle.engine.specs.Areas.{Areas, areas}
 use Rattle.engine.specs.Questions as engine
 use Rattle.engine.specs.Run.{runOf}
-use Rattle.method.specs.Values.{netCount}
 use Rattle.engine.specs.After.{LeftByRun}
 use Rattle.engine.proofs.Accepted.{held, none}
 use Rattle.engine.proofs.After.{after-runs}
 use Rattle.engine.proofs.Answering.{run-is}
 use Rattle.method.proofs.Parts.{all-words}
-use Rattle.waveform.specs.Input.{wordsFrom, beforeWords, afterWords, questions}
+use Rattle.waveform.specs.Input.{wordsFrom, wordsOf, questions}
 use Rattle.text.specs.Text.{refusal}
 use Rattle.waveform.specs.Lines.{lines}
 use Rattle.waveform.specs.Wave.{answerText, bufferLength}
@@ -76,39 +76,39 @@ module _ (file : List ℕ) {r : Reading} (e : reader.onPaper r ≡ reader.readOf
 
 -- ---- a run
 
-module _ (file before after : List ℕ) (a : Areas) where
+module _ (task : Task) (w : WordLists) (a : Areas) where
   abbrev number : ℕ
-  number = firstNo (engine.questions file a (length before) (length after))
+  number = firstNo (engine.questions task (lengthsOf w) a)
 
-  text-yes : number ≡ 0 → runText file a before after ≡ lines (circuitOf file) before after
+  text-yes : number ≡ 0 → runText task w a ≡ lines task w
   unfolding runText
   text-yes e = rw (eq-eqb number 0 e) refl
 
-  text-no : (number ≡ 0 → ⊥) → runText file a before after ≡ refusal number
+  text-no : (number ≡ 0 → ⊥) → runText task w a ≡ refusal number
   unfolding runText
   text-no e = rw (ne-eqb number 0 e) refl
 
-  module _ {r : Planning} {b : Areas} (e : outcome (onPaper r) b ≡ runOf file before after a) where
+  module _ {r : Planning} {b : Areas} (e : outcome (onPaper r) b ≡ runOf task w a) where
     -- a "no"
-    pub run-refused : {n : ℕ} → r ≡ Q.Refused n → refusal n ≡ runText file a before after
+    pub run-refused : {n : ℕ} → r ≡ Q.Refused n → refusal n ≡ runText task w a
     unfolding onPaper
     run-refused {n} q =
-        let s = refused-some number _ (sym (run-is file before after a e .0) ∙ ap onPaper q) in
+        let s = refused-some number _ (sym (run-is task w a e .0) ∙ ap onPaper q) in
         sym (text-no (λ z. omega (arith, s .0, s .1, z)) ∙ ap refusal (s .0))
 
     module _ {totals : Totals} (q : r ≡ Q.Planned totals) where
-      ran : LeftByRun file before after b
+      ran : LeftByRun task w b
       unfolding onPaper
       ran = record { totals = totals; entry = a; ran = ap (λ (x : Planning). outcome (onPaper x) b) (sym q) ∙ e }
 
       -- all lines
-      pub run-lines : {nets : ℕ} → nets ≡ netsRead (reader.readOf file) → areaLines (b .plan .directory) (b .plan .times) (b .values) nets ≡ runText file a before after
+      pub run-lines : {nets : ℕ} → nets ≡ netsRead (reader.readOf (task .file)) → areaLines (b .plan .directory) (b .plan .times) (b .values) nets ≡ runText task w a
       unfolding ran
       run-lines {nets} p =
-          let m : nets ≡ netCount (circuitOf file) = p ∙ ap netsRead (held file before after ran .read) ∙ sym (ap₂ _+_ (circuit-inputs file) (gates-length file)) in
+          let m : nets ≡ netsIn task = p ∙ ap netsRead (held task w ran .read) ∙ sym (ap₂ _+_ (circuit-inputs (task .file)) (gates-length (task .file))) in
           ap (areaLines (b .plan .directory) (b .plan .times) (b .values)) m
-          ∙ lines-are file before after (after-runs .after-run file before after b ran)
-          ∙ sym (text-yes (none file before after ran))
+          ∙ lines-are task w (after-runs .after-run task w b ran)
+          ∙ sym (text-yes (none task w ran))
 
 -- ---- the lists and the part
 
@@ -119,8 +119,11 @@ module _ (file part : List ℕ) where
   abbrev each : ℕ
   each = listLength n
 
+  abbrev eachOf : Lengths
+  eachOf = record { before = each; after = each }
+
   -- where the circuit takes 1 to 32 words each, 11 asks the same of the lists and of the part
-  same-words : 1 ≤ inputsOf file → inputsOf file ≤ mostInputs → engine.wordsSuit (inputsOf file) each each ≡ eqb n (16 * inputsOf file)
+  same-words : 1 ≤ inputsOf file → inputsOf file ≤ mostInputs → engine.wordsSuit (inputsOf file) eachOf ≡ eqb n (16 * inputsOf file)
   unfolding engine.wordsSuit
   same-words h l =
       bool-ext _ _
@@ -134,7 +137,7 @@ module _ (file part : List ℕ) where
 
   -- the ladder behind the reader's
   abbrev rest : List Question
-  rest = (eqb n (16 * inputsOf file) orElse 11) ∷ lastQuestion file
+  rest = (eqb n (16 * inputsOf file) orElse 11) ∷ lastQuestion (taskOf file)
 
   joined : firstNo (questions file part) ≡ first (firstNo (reader.questions file)) (firstNo rest)
   unfolding questions
@@ -143,22 +146,22 @@ module _ (file part : List ℕ) where
   -- Run's ladder comes to the same
   module _ (a : Areas) (suit : engine.areasSuit a ≡ true) where
     abbrev own : List Question
-    own = (engine.areasSuit a orElse 10) ∷ (engine.wordsSuit (inputsOf file) each each orElse 11) ∷ lastQuestion file
+    own = (engine.areasSuit a orElse 10) ∷ (engine.wordsSuit (inputsOf file) eachOf orElse 11) ∷ lastQuestion (taskOf file)
 
-    run-joined : firstNo (engine.questions file a each each) ≡ first (firstNo (reader.questions file)) (firstNo own)
+    run-joined : firstNo (engine.questions (taskOf file) eachOf a) ≡ first (firstNo (reader.questions file)) (firstNo own)
     unfolding engine.questions engine.firstQuestions
     run-joined =
-        ap firstNo (append-assoc (reader.questions file) (engine.ownQuestions (inputsOf file) a each each) (lastQuestion file))
+        ap firstNo (append-assoc (reader.questions file) (engine.ownQuestions (inputsOf file) eachOf a) (lastQuestion (taskOf file)))
         ∙ firstNo-append (reader.questions file) own (questions-numbered file)
 
     same-rest : (m : ℕ) → firstNo (reader.questions file) ≡ m → first m (firstNo own) ≡ first m (firstNo rest)
     same-rest zero e =
         let h = file-head e in
         ask-yes (engine.areasSuit a) 10 _ suit
-        ∙ ap (λ (b : Bool). firstNo ((b orElse 11) ∷ lastQuestion file)) (same-words (h .inputs-least) (h .inputs-most))
+        ∙ ap (λ (b : Bool). firstNo ((b orElse 11) ∷ lastQuestion (taskOf file))) (same-words (h .inputs-least) (h .inputs-most))
     same-rest (suc m) e = refl
 
-    same-number : firstNo (engine.questions file a each each) ≡ firstNo (questions file part)
+    same-number : firstNo (engine.questions (taskOf file) eachOf a) ≡ firstNo (questions file part)
     same-number = run-joined ∙ same-rest (firstNo (reader.questions file)) refl ∙ sym joined
 
   -- no "no": the parts of that
@@ -166,30 +169,30 @@ module _ (file part : List ℕ) where
     both : (firstNo (reader.questions file) ≡ 0) × (firstNo rest ≡ 0)
     both = first-none (firstNo (reader.questions file)) (firstNo rest) (sym joined ∙ e)
 
-    words-asked : (eqb n (16 * inputsOf file) ≡ true) × (firstNo (lastQuestion file) ≡ 0)
-    words-asked = asked (eqb n (16 * inputsOf file)) 11 (lastQuestion file) (λ z. omega arith) (both .1)
+    words-asked : (eqb n (16 * inputsOf file) ≡ true) × (firstNo (lastQuestion (taskOf file)) ≡ 0)
+    words-asked = asked (eqb n (16 * inputsOf file)) 11 (lastQuestion (taskOf file)) (λ z. omega arith) (both .1)
 
     each-is : each ≡ inputsOf file
     each-is = list-exact n (inputsOf file) (file-head (both .0) .inputs-most) (eqb-true n (16 * inputsOf file) (words-asked .0))
 
-    fit : fits (frames (circuitOf file)) ≡ true
-    fit = asked (fits (frames (circuitOf file))) 13 [] (λ z. omega arith) (words-asked .1) .0
+    fit : fits (framesIn (taskOf file)) ≡ true
+    fit = asked (fits (framesIn (taskOf file))) 13 [] (λ z. omega arith) (words-asked .1) .0
 
-    lines-fit : (before after : List ℕ) → length (lines (circuitOf file) before after) ≤ bufferLength
-    lines-fit before after =
+    lines-fit : (w : WordLists) → length (lines (taskOf file) w) ≤ bufferLength
+    lines-fit w =
         let h = file-head (both .0) in
         omega (
           arith,
-          lines-length (circuitOf file) before after,
-          all-words (circuitOf file) before after,
-          fits-total (frames (circuitOf file)) fit,
+          lines-length (taskOf file) w,
+          all-words (circuitOf file) w,
+          fits-total (framesIn (taskOf file)) fit,
           h .inputs-most,
           h .gates-most,
           circuit-inputs file,
           gates-length file,
         )
 
-  answer-yes : firstNo (questions file part) ≡ 0 → answerText file part ≡ lines (circuitOf file) (beforeWords file part) (afterWords file part)
+  answer-yes : firstNo (questions file part) ≡ 0 → answerText file part ≡ lines (taskOf file) (wordsOf file part)
   unfolding answerText
   answer-yes e = rw (eq-eqb (firstNo (questions file part)) 0 e) refl
 
@@ -198,25 +201,25 @@ module _ (file part : List ℕ) where
   answer-no e = rw (ne-eqb (firstNo (questions file part)) 0 e) refl
 
   -- Run's answer to the lists is the answer
-  module _ (a : Areas) (suit : engine.areasSuit a ≡ true) {before after : List ℕ} (b : before ≡ wordsFrom part 0 each) (f : after ≡ wordsFrom part each each) where
-    number-is : firstNo (engine.questions file a (length before) (length after)) ≡ firstNo (questions file part)
+  module _ (a : Areas) (suit : engine.areasSuit a ≡ true) {w : WordLists} (b : w .before ≡ wordsFrom part 0 each) (f : w .after ≡ wordsFrom part each each) where
+    number-is : firstNo (engine.questions (taskOf file) (lengthsOf w) a) ≡ firstNo (questions file part)
     number-is =
-        ap₂ (λ (k l : ℕ). firstNo (engine.questions file a k l)) (ap length b ∙ words-length part 0 each) (ap length f ∙ words-length part each each)
+        ap₂ (λ (k l : ℕ). firstNo (engine.questions (taskOf file) (record { before = k; after = l }) a)) (ap length b ∙ words-length part 0 each) (ap length f ∙ words-length part each each)
         ∙ same-number a suit
 
-    yes : firstNo (questions file part) ≡ 0 → runText file a before after ≡ answerText file part
+    yes : firstNo (questions file part) ≡ 0 → runText (taskOf file) w a ≡ answerText file part
     yes e =
-        text-yes file before after a (number-is ∙ e)
-        ∙ ap₂ (lines (circuitOf file)) (b ∙ ap (wordsFrom part 0) (each-is e)) (f ∙ ap (λ (k : ℕ). wordsFrom part k k) (each-is e))
+        text-yes (taskOf file) w a (number-is ∙ e)
+        ∙ ap₂ (λ (x y : List ℕ). lines (taskOf file) (wordLists x y)) (b ∙ ap (wordsFrom part 0) (each-is e)) (f ∙ ap (λ (k : ℕ). wordsFrom part k k) (each-is e))
         ∙ sym (answer-yes e)
 
-    no : (firstNo (questions file part) ≡ 0 → ⊥) → runText file a before after ≡ answerText file part
-    no e = text-no file before after a (λ z. e (sym number-is ∙ z)) ∙ ap refusal number-is ∙ sym (answer-no e)
+    no : (firstNo (questions file part) ≡ 0 → ⊥) → runText (taskOf file) w a ≡ answerText file part
+    no e = text-no (taskOf file) w a (λ z. e (sym number-is ∙ z)) ∙ ap refusal number-is ∙ sym (answer-no e)
 
-    pub answer-is : runText file a before after ≡ answerText file part
+    pub answer-is : runText (taskOf file) w a ≡ answerText file part
     answer-is = ⊎-elim yes no (zero-or (firstNo (questions file part)))
 
   pub answer-fits : length (answerText file part) ≤ bufferLength
   answer-fits =
-      ⊎-elim (λ e. rw (answer-yes e) (lines-fit e (beforeWords file part) (afterWords file part)))
+      ⊎-elim (λ e. rw (answer-yes e) (lines-fit e (wordsOf file part)))
       (λ e. rw (answer-no e) (omega (arith, refusal-length (firstNo (questions file part))))) (zero-or (firstNo (questions file part)))

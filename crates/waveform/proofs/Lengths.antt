@@ -10,12 +10,10 @@ use lib.ListN.{length, length-append}
 use lib.Dec.{leb}
 use Rattle.lists.specs.Tables.{tabulate, tabulateFrom}
 use Rattle.lists.proofs.Flat.{flat-next}
-use Rattle.method.specs.Circuit.{Circuit}
-use Rattle.method.specs.Frames.{framesAt}
-use Rattle.method.specs.Packed.{laneOf, packedValues}
-use Rattle.method.specs.Traces.{traceAt}
-use Rattle.method.specs.Values.{netCount, allValues}
+use Rattle.method.specs.Values.{allValues}
+use Rattle.method.specs.WordLists.{WordLists}
 use Rattle.method.proofs.Parts.{word-each}
+use Rattle.circuit.specs.Task.{Task, circuitIn, netsIn, timesIn, laneValues, packedIn, allPackedIn}
 use Rattle.text.specs.Text.{glyph, digitAt, decimal, newline, equals, refusal, frameText}
 use Rattle.waveform.specs.Lines.{line, netLine, lines}
 
@@ -56,25 +54,25 @@ line-length net times levels =
     let row = flatten (zipWith frameText times levels) in
     omega (arith, length-append (decimal net) (row ++ newline ∷ []), length-append row (newline ∷ []), decimal-length net, frames-length times levels)
 
-module _ (c : Circuit) (before after : List ℕ) where
-  none : length (flatten (tabulate 0 (netLine c before after))) ≤ 6 * 0 + 8 * length (flatten (tabulate 0 (packedValues c before after)))
+module _ (task : Task) (w : WordLists) where
+  none : length (flatten (tabulate 0 (netLine task w))) ≤ 6 * 0 + 8 * length (flatten (tabulate 0 (packedIn task w)))
   unfolding tabulateFrom flatten
   none = omega arith
 
-  some-length : (n : ℕ) → length (flatten (tabulate n (netLine c before after))) ≤ 6 * n + 8 * length (flatten (tabulate n (packedValues c before after)))
+  some-length : (n : ℕ) → length (flatten (tabulate n (netLine task w))) ≤ 6 * n + 8 * length (flatten (tabulate n (packedIn task w)))
   some-length zero = none
   some-length (suc n) =
-      let f = netLine c before after in
-      let g = packedValues c before after in
+      let f = netLine task w in
+      let g = packedIn task w in
       omega (
         arith,
         ap length (flat-next f n) ∙ length-append (flatten (tabulate n f)) (f n),
         ap length (flat-next g n) ∙ length-append (flatten (tabulate n g)) (g n),
-        line-length n (framesAt c n .times) (traceAt c (laneOf 0 before after) n .values),
-        word-each c before after n,
+        line-length n (timesIn task n) (laneValues task w 0 n),
+        word-each (circuitIn task) w n,
         some-length n,
       )
 
-  pub lines-length : length (lines c before after) ≤ 6 * netCount c + 8 * length (allValues c before after)
+  pub lines-length : length (lines task w) ≤ 6 * netsIn task + 8 * length (allPackedIn task w)
   unfolding lines allValues
-  lines-length = some-length (netCount c)
+  lines-length = some-length (netsIn task)

@@ -2,15 +2,16 @@
 -- Assumes nothing.
 use mathlib.Core.Path.{sym, ap, _∙_}
 use mathlib.Core.List.{map}
-use Rattle.method.specs.Frames.{Frames, framesAt}
+use Rattle.method.specs.Frames.{Frames}
 use Rattle.method.specs.Machine.{machine}
-use Rattle.method.specs.Packed.{laneOf}
 use Rattle.method.proofs.Following.{follows}
 use Rattle.method.proofs.Planned.{frames-are}
+use Rattle.circuit.specs.Task.{circuitIn, timesIn, stimuliIn}
 use Rattle.waveform.specs.Lines.{line}
 use Rattle.waveform.specs.Levels.{PrintedLevels}
 
 pub printed-levels : PrintedLevels
-printed-levels c before after n =
-    let s = laneOf 0 before after in
-    ap (line n (framesAt c n .times)) (follows c s n .samples ∙ ap (λ (f : Frames). map (machine c s n) (f .times)) (sym (frames-are c s n)))
+printed-levels task w n =
+    let c = circuitIn task in
+    let s = stimuliIn task w 0 in
+    ap (line n (timesIn task n)) (follows c s n .samples ∙ ap (λ (f : Frames). map (machine c s n) (f .times)) (sym (frames-are c s n)))

@@ -10,19 +10,15 @@ use native.Mathlib.Nat.{zero-add, add-zero}
 use lib.ListN.{length, getD}
 use Rattle.lists.specs.Tables.{tabulateFrom}
 use Rattle.lists.proofs.Tabled.{from-ext}
-use Rattle.method.specs.Circuit.{Circuit}
-use Rattle.method.specs.Frames.{framesAt}
-use Rattle.method.specs.Traces.{traceAt}
 use Rattle.method.specs.Words.{lane}
-use Rattle.method.specs.Packed.{laneOf}
 use Rattle.method.proofs.Tracing.{value-each}
 use Rattle.method.proofs.Lanes.{in-lanes}
-use Rattle.circuit.specs.File.{circuitOf}
 use Rattle.method.specs.Layout.{frameCount, partOf}
+use Rattle.method.specs.WordLists.{WordLists}
+use Rattle.circuit.specs.Task.{Task, circuitIn, netsIn, timesIn, stimuliIn, laneValues}
 use Rattle.looks.specs.declared.Sight as code
 use Rattle.looks.specs.Sight.{sightAt, sightOnPaper}
 use Rattle.engine.specs.Areas.{Areas}
-use Rattle.method.specs.Values.{netCount}
 use Rattle.engine.specs.After.{After}
 use Rattle.text.specs.Text.{newline, decimal, frameText}
 use Rattle.waveform.specs.Lines.{line, netLine, lines}
@@ -72,34 +68,31 @@ zip-from f (x ∷ xs) (y ∷ ys) e j h each =
     (ap h (sym (add-zero j)) ∙ each 0 (omega arith))
     (zip-from f xs ys (omega (arith, e)) (suc j) h (λ k l. ap h (omega arith) ∙ each (suc k) (omega (arith, l))))
 
-module _ (file before after : List ℕ) {a : Areas} (h : After file before after a) where
-  abbrev c : Circuit
-  c = circuitOf file
-
+module _ (task : Task) (w : WordLists) {a : Areas} (h : After task w a) where
   abbrev d : List ℕ
   d = a .plan .directory
 
-  module _ (n : ℕ) (l : n < netCount c) where
+  module _ (n : ℕ) (l : n < netsIn task) where
     abbrev times : List ℕ
-    times = framesAt c n .times
+    times = timesIn task n
 
     abbrev levels : List Bool
-    levels = traceAt c (laneOf 0 before after) n .values
+    levels = laneValues task w 0 n
 
     own : map (lane 0) (partOf d (a .values) n) ≡ levels
-    own = ap (map (lane 0)) (h .values-are n l) ∙ in-lanes .own-values c before after 0 (omega arith) n
+    own = ap (map (lane 0)) (h .values-are n l) ∙ in-lanes .own-values (circuitIn task) w 0 (omega arith) n
 
     frames-are : partFrames (partOf d (a .plan .times) n) (partOf d (a .values) n) (frameCount d n) ≡ flatten (zipWith frameText times levels)
     unfolding partFrames sightAt
     frames-are =
         rw (h .count-is n l, h .times-are n l, own)
-        (ap flatten (zip-from frameText times levels (value-each c (laneOf 0 before after) n) 0 (λ (k : ℕ). seenText (sightAt times levels k)) (λ k m. rw (zero-add k) refl)))
+        (ap flatten (zip-from frameText times levels (value-each (circuitIn task) (stimuliIn task w 0) n) 0 (λ (k : ℕ). seenText (sightAt times levels k)) (λ k m. rw (zero-add k) refl)))
 
-    line-is : areaLine d (a .plan .times) (a .values) n ≡ netLine c before after n
+    line-is : areaLine d (a .plan .times) (a .values) n ≡ netLine task w n
     unfolding areaLine line
     line-is = rw frames-are refl
 
-  pub lines-are : areaLines (a .plan .directory) (a .plan .times) (a .values) (netCount (circuitOf file)) ≡ lines (circuitOf file) before after
+  pub lines-are : areaLines (a .plan .directory) (a .plan .times) (a .values) (netsIn task) ≡ lines task w
   unfolding areaLines lines
   lines-are =
-      ap flatten (from-ext (netCount c) 0 (areaLine d (a .plan .times) (a .values)) (netLine c before after) (λ k _ l. line-is k (omega (arith, l))))
+      ap flatten (from-ext (netsIn task) 0 (areaLine d (a .plan .times) (a .values)) (netLine task w) (λ k _ l. line-is k (omega (arith, l))))

@@ -6,9 +6,11 @@ use lib.ListN.{length, take, drop}
 use lib.Dec.{leb, eqb}
 use Rattle.lists.specs.Ladder.{Question, _orElse_}
 use Rattle.lists.specs.Tables.{tabulate}
+use Rattle.method.specs.WordLists.{WordLists, wordLists}
 use Rattle.numbers.specs.Numbers.{numberAt, wordAt}
 use Rattle.circuit.specs.File.{inputsOf}
 use Rattle.circuit.specs.Questions as reader
+use Rattle.circuit.specs.Task.{taskOf}
 use Rattle.planner.specs.Questions.{lastQuestion}
 
 -- an input has at most this many bytes
@@ -39,14 +41,11 @@ unfoldable pub wordsFrom : List ℕ → ℕ → ℕ → List ℕ
 wordsFrom part first n = tabulate n (λ (i : ℕ). wordAt part (8 * (first + i)))
 
 -- the before words, and behind them the after words, one for each input of the file
-abbrev pub beforeWords : List ℕ → List ℕ → List ℕ
-beforeWords file part = wordsFrom part 0 (inputsOf file)
-
-abbrev pub afterWords : List ℕ → List ℕ → List ℕ
-afterWords file part = wordsFrom part (inputsOf file) (inputsOf file)
+abbrev pub wordsOf : List ℕ → List ℕ → WordLists
+wordsOf file part = wordLists (wordsFrom part 0 (inputsOf file)) (wordsFrom part (inputsOf file) (inputsOf file))
 
 -- the questions after 0: the reader's 1 to 9, then
 -- 11: Is the word part 16 × I bytes?
 -- 13: Has every net at most 64 frames, and all nets together at most 2,048?
 unfoldable pub questions : List ℕ → List ℕ → List Question
-questions file part = reader.questions file ++ (eqb (length part) (16 * inputsOf file) orElse 11) ∷ lastQuestion file
+questions file part = reader.questions file ++ (eqb (length part) (16 * inputsOf file) orElse 11) ∷ lastQuestion (taskOf file)

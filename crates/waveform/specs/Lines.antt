@@ -3,11 +3,8 @@ use Prim.Native.Nat.{ℕ}
 use mathlib.Core.Bool.{Bool}
 use mathlib.Core.List.{List, [], _∷_, _++_, flatten, zipWith}
 use Rattle.lists.specs.Tables.{tabulate}
-use Rattle.method.specs.Circuit.{Circuit}
-use Rattle.method.specs.Frames.{framesAt}
-use Rattle.method.specs.Traces.{traceAt}
-use Rattle.method.specs.Packed.{laneOf}
-use Rattle.method.specs.Values.{netCount}
+use Rattle.method.specs.WordLists.{WordLists}
+use Rattle.circuit.specs.Task.{Task, netsIn, timesIn, laneValues}
 use Rattle.text.specs.Text.{newline, decimal, frameText}
 
 -- a line: the net's number, then its frames, whose times and levels are these, one level a frame, and a newline
@@ -15,9 +12,9 @@ unfoldable pub line : ℕ → List ℕ → List Bool → List ℕ
 line net times levels = decimal net ++ (flatten (zipWith frameText times levels) ++ newline ∷ [])
 
 -- net n's line: the times of its frames, and the values of lane 0's own trace
-abbrev pub netLine : Circuit → List ℕ → List ℕ → ℕ → List ℕ
-netLine c before after n = line n (framesAt c n .times) (traceAt c (laneOf 0 before after) n .values)
+abbrev pub netLine : Task → WordLists → ℕ → List ℕ
+netLine task w n = line n (timesIn task n) (laneValues task w 0 n)
 
--- all nets of a circuit, run for these words
-unfoldable pub lines : Circuit → List ℕ → List ℕ → List ℕ
-lines c before after = flatten (tabulate (netCount c) (netLine c before after))
+-- all nets of a task, run for these words
+unfoldable pub lines : Task → WordLists → List ℕ
+lines task w = flatten (tabulate (netsIn task) (netLine task w))

@@ -2,13 +2,13 @@
 use Prim.Native.Nat.{ℕ, _+_, _/_, _%_}
 use mathlib.Core.Bool.{cond, _&&_}
 use mathlib.Core.List.{List, [], _∷_, _++_, flatten, map}
-use lib.ListN.{length}
 use lib.Dec.{leb, eqb}
 use Rattle.lists.specs.Ladder.{firstNo, Answer, accepted, refused}
 use Rattle.lists.specs.Tables.{tabulate}
 use Rattle.method.specs.Words.{lane}
-use Rattle.circuit.specs.File.{circuitOf}
+use Rattle.method.specs.WordLists.{WordLists, lengthsOf}
 use Rattle.circuit.specs.Questions.{InputsAndGates}
+use Rattle.circuit.specs.Task.{Task}
 use Rattle.method.specs.Layout.{frameCount, partOf}
 use Rattle.looks.specs.Sight.{Sight, sightAt}
 use Rattle.engine.specs.Areas.{Areas}
@@ -46,7 +46,7 @@ netsRead (accepted s) = s .inputs + s .gates
 netsRead (refused n) = 0
 
 -- the number of the first "no" of Run, or the lines
-unfoldable pub runText : List ℕ → Areas → List ℕ → List ℕ → List ℕ
-runText file a before after =
-    let n : ℕ = firstNo (engine.questions file a (length before) (length after)) in
-    cond (eqb n 0) (lines (circuitOf file) before after) (refusal n)
+unfoldable pub runText : Task → WordLists → Areas → List ℕ
+runText task w a =
+    let n : ℕ = firstNo (engine.questions task (lengthsOf w) a) in
+    cond (eqb n 0) (lines task w) (refusal n)

@@ -1,7 +1,9 @@
 // The lines of the nets, and the answer to a circuit with its words.
 ghost use mathlib.Core.Path.{_≡_};
 ghost use lib.ListN.{length};
+ghost use Rattle.method.specs.WordLists.{wordLists};
 ghost use Rattle.circuit.specs.Questions.{readOf};
+ghost use Rattle.circuit.specs.Task.{taskOf};
 ghost use Rattle.engine.specs.Areas.{areas};
 ghost use Rattle.waveform.specs.Wave.{answerText};
 ghost use Rattle.text.specs.Wrote.{Wrote};
@@ -75,7 +77,7 @@ fn put_run(
     after: &[u64],
     output: &mut [u8],
 ) -> usize
-    ensures { λ r. ⌜ Wrote (now (output .entry)) 0 (runText (now (file .entry)) (areas (now (directory .entry)) (now (times .entry)) (now (inertial .entry)) (now (fanins .entry)) (now (values .entry))) (now (before .entry)) (now (after .entry))) (now (output .exit)) r ⌝ }
+    ensures { λ r. ⌜ Wrote (now (output .entry)) 0 (runText (taskOf (now (file .entry))) (wordLists (now (before .entry)) (now (after .entry))) (areas (now (directory .entry)) (now (times .entry)) (now (inertial .entry)) (now (fanins .entry)) (now (values .entry)))) (now (output .exit)) r ⌝ }
 {
     match engine::run(
         file,

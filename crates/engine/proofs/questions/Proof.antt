@@ -18,13 +18,13 @@ own-fault-requires : tie.Need-own-fault-requires
 own-fault-requires c κs = search needs
 
 returns : tie.Need-returns
-returns c = own-no _ _ _ _ (c .before .before .before .before .before .read .ensures) (c .before .before .before .inputs .given .1) (c .before .own-fault .ensures) (c .if1 .taken)
+returns c = own-no _ _ _ (c .before .before .before .before .before .read .ensures) (c .before .before .before .inputs .given .1) (c .before .own-fault .ensures) (c .if1 .taken)
 
 returns-2 : tie.Need-returns-2
-returns-2 c = read-no _ _ _ _ (c .before .before .before .read .ensures) (c .before .n .given .1)
+returns-2 c = read-no _ _ _ (c .before .before .before .read .ensures) (c .before .n .given .1)
 
 returns-3 : tie.Need-returns-3
-returns-3 c = own-none _ _ _ _ (c .before .before .before .before .before .read .ensures) (c .before .before .before .inputs .given .1) (c .before .own-fault .ensures) (search needs)
+returns-3 c = own-none _ _ _ (c .before .before .before .before .before .read .ensures) (c .before .before .before .inputs .given .1) (c .before .own-fault .ensures) (search needs)
 
 pub questions-spec : {M : Type 1} → statement M
 questions-spec =

@@ -16,7 +16,7 @@ enum-known-inputs : tie.Need-enum-known-inputs
 enum-known-inputs c = search needs
 
 simulate-requires : tie.Need-simulate-requires
-simulate-requires c κs = asked-yes _ _ _ _ (c .before .before .before .before .before .before .before .before .questions .ensures) (c .before .before .before .before .before .before .inputs .given .1)
+simulate-requires c κs = asked-yes _ _ _ (c .before .before .before .before .before .before .before .before .questions .ensures) (c .before .before .before .before .before .before .inputs .given .1)
 
 same-length : tie.Need-same-length
 same-length c = search needs
@@ -34,7 +34,7 @@ same-length-5 : tie.Need-same-length-5
 same-length-5 c = search needs
 
 returns : tie.Need-returns
-returns c = let q = asked-no _ _ _ _ (c .before .before .before .questions .ensures) (c .before .n .given .1) in run-no _ _ _ _ (q .0) (q .1)
+returns c = let q = asked-no _ _ _ (c .before .before .before .questions .ensures) (c .before .n .given .1) in run-no _ _ _ (q .0) (q .1)
 
 same-length-6 : tie.Need-same-length-6
 same-length-6 c = search needs

@@ -35,7 +35,7 @@ returns c =
     let s = c .before .before .before .before .before .before .before .before .before .before .before .before .before .before .before .before .before .before .before in
     let inputs = c .before .before .before .before .before .before .before .before .before .before .input-words in
     let gates = c .before .before .before .before .before .before .all-gates in
-    evaluated _ _ _ (s .pre .0 .1) (s .pre .0 .2) (s .pre .1) (inputs .ensures) (gates .ensures) (omega (arith, gates .kept, inputs .kept)) (c .before .before .clear-words .ensures)
+    evaluated _ _ (s .pre .0 .1) (s .pre .0 .2) (s .pre .1) (inputs .ensures) (gates .ensures) (omega (arith, gates .kept, inputs .kept)) (c .before .before .clear-words .ensures)
 
 pub evaluate-spec : {M : Type 1} → statement M
 evaluate-spec =

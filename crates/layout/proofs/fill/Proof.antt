@@ -2,6 +2,7 @@
 -- Assumes nothing.
 use native.Mathlib.Omega.{arith}
 use denote.Ref.{now}
+use Rattle.circuit.specs.Task.{taskOf}
 use Rattle.layout.proofs.Starting.{inputs-room, inputs-none, going-none}
 use Rattle.layout.proofs.Stepping.{given-alike}
 use Rattle.layout.proofs.Filling.{filled-now, filled-none}
@@ -15,10 +16,10 @@ clear-all-requires c κs = search needs
 add-inputs-requires : tie.Need-add-inputs-requires
 add-inputs-requires c κs =
     let s = c .before .before .before .before .before .before .before .before .before .before .before .before .before .before .before .before .before .before .before .before in
-    let r = inputs-room (now (s .args .file)) (s .pre .0) in
+    let r = inputs-room (taskOf (now (s .args .file))) (s .pre .0) in
     let inputs = s .pre .1 in
     let cleared = c .before .before .before .before .before .before .before .before .before .before .clear-all .kept in
-    (omega arith, omega arith, omega arith, omega arith, inputs-none (now (s .args .file)) (s .pre .0) (c .before .before .before .before .before .before .before .before .before .before .clear-all .ensures))
+    (omega arith, omega arith, omega arith, omega arith, inputs-none (taskOf (now (s .args .file))) (s .pre .0) (c .before .before .before .before .before .before .before .before .before .before .clear-all .ensures))
 
 add-gates-requires : tie.Need-add-gates-requires
 add-gates-requires c κs =
@@ -26,7 +27,7 @@ add-gates-requires c κs =
     let cleared = c .before .before .before .before .before .before .before .before .before .before .before .before .before .before .before .before .before .before .before .clear-all .kept in
     let written = c .before .before .before .before .before .before .before .before .add-inputs .kept in (
       (given-alike (s .pre .0) (record { directory = omega arith; times = omega arith; inertial = omega arith; fanins = omega arith }), s .pre .1, s .pre .2),
-      going-none (now (s .args .file)) (s .pre .0) (c .before .before .before .before .before .before .before .before .before .before .before .before .before .before .before .before .before .before .before .clear-all .ensures) (s .pre .1) (c .before .before .before .before .before .before .before .before .add-inputs .ensures .0) (c .before .before .before .before .before .before .before .before .add-inputs .ensures .1),
+      going-none (taskOf (now (s .args .file))) (s .pre .0) (c .before .before .before .before .before .before .before .before .before .before .before .before .before .before .before .before .before .before .before .clear-all .ensures) (s .pre .1) (c .before .before .before .before .before .before .before .before .add-inputs .ensures .0) (c .before .before .before .before .before .before .before .before .add-inputs .ensures .1),
     )
 
 enum-known-totals : tie.Need-enum-known-totals
@@ -56,7 +57,7 @@ returns c =
     let gates = g .add-gates .kept in
     let inputs = g .before .before .before .before .before .before .before .before .before .add-inputs .kept in
     let cleared = g .before .before .before .before .before .before .before .before .before .before .before .before .before .before .before .before .before .before .before .before .clear-all .kept in
-    filled-none (now (c .before .before .before .before .before .before .before .before .before .before .before .before .before .before .before .before .before .before .before .before .before .before .before .before .before .before .before .before .before .before .before .before .before .before .before .before .before .before .before .before .before .before .before .before .before .before .before .before .before .before .before .before .before .args .file)) (c .before .before .before .before .before .before .before .before .before .before .before .before .before .before .before .before .before .before .before .before .before .before .before .before .before .before .before .before .before .before .before .before .before .before .before .before .before .before .before .before .before .before .before .before .before .before .before .before .before .before .before .before .before .pre .2) (g .add-gates .ensures) (c .before .before .before .before .before .before .before .before .before .before .before .before .before .enum-told .given .1) (c .before .before .before .before .before .before .before .before .clear-all2 .ensures) (record { directory = omega arith; times = omega arith; inertial = omega arith; fanins = omega arith })
+    filled-none (taskOf (now (c .before .before .before .before .before .before .before .before .before .before .before .before .before .before .before .before .before .before .before .before .before .before .before .before .before .before .before .before .before .before .before .before .before .before .before .before .before .before .before .before .before .before .before .before .before .before .before .before .before .before .before .before .before .args .file))) (c .before .before .before .before .before .before .before .before .before .before .before .before .before .before .before .before .before .before .before .before .before .before .before .before .before .before .before .before .before .before .before .before .before .before .before .before .before .before .before .before .before .before .before .before .before .before .before .before .before .before .before .before .before .pre .2) (g .add-gates .ensures) (c .before .before .before .before .before .before .before .before .before .before .before .before .before .enum-told .given .1) (c .before .before .before .before .before .before .before .before .clear-all2 .ensures) (record { directory = omega arith; times = omega arith; inertial = omega arith; fanins = omega arith })
 
 same-length-5 : tie.Need-same-length-5
 same-length-5 c = let g = c .before .before .before .before .before .before .before .before .before .before .before in omega (arith, g .add-gates .kept, g .before .before .before .before .before .before .before .before .before .add-inputs .kept, g .before .before .before .before .before .before .before .before .before .before .before .before .before .before .before .before .before .before .before .before .clear-all .kept)
@@ -76,7 +77,7 @@ returns-2 c =
     let gates = g .add-gates .kept in
     let inputs = g .before .before .before .before .before .before .before .before .before .add-inputs .kept in
     let cleared = g .before .before .before .before .before .before .before .before .before .before .before .before .before .before .before .before .before .before .before .before .clear-all .kept in
-    filled-now (now (c .before .before .before .before .before .before .before .before .before .before .before .before .before .before .before .before .before .before .before .before .before .before .before .before .before .before .before .before .before .before .before .before .before .before .before .before .before .before .before .before .before .args .file)) (c .before .before .before .before .before .before .before .before .before .before .before .before .before .before .before .before .before .before .before .before .before .before .before .before .before .before .before .before .before .before .before .before .before .before .before .before .before .before .before .before .before .pre .2) (g .add-gates .ensures) _ (c .before .totals .given .1) (record { directory = omega arith; times = omega arith; inertial = omega arith; fanins = omega arith })
+    filled-now (taskOf (now (c .before .before .before .before .before .before .before .before .before .before .before .before .before .before .before .before .before .before .before .before .before .before .before .before .before .before .before .before .before .before .before .before .before .before .before .before .before .before .before .before .before .args .file))) (c .before .before .before .before .before .before .before .before .before .before .before .before .before .before .before .before .before .before .before .before .before .before .before .before .before .before .before .before .before .before .before .before .before .before .before .before .before .before .before .before .before .pre .2) (g .add-gates .ensures) _ (c .before .totals .given .1) (record { directory = omega arith; times = omega arith; inertial = omega arith; fanins = omega arith })
 
 pub fill-spec : {M : Type 1} → statement M
 fill-spec =

@@ -51,8 +51,8 @@ use denote.Triple.Walked.{says, Stays, stay-dropped, gave-slice, walkOf, Walks, 
 use denote.Exit.{yes}
 use Rattle.lists.specs.Ladder.{Answer, accepted}
 use Rattle.lists.specs.Outcome.{Outcome, outcome}
-use Rattle.method.specs.Values.{netCount}
-use Rattle.circuit.specs.File.{circuitOf}
+use Rattle.method.specs.WordLists.{wordLists}
+use Rattle.circuit.specs.Task.{taskOf, netsIn}
 use Rattle.engine.specs.Areas.{Areas, areas}
 use Rattle.expectations.specs.declared.Expectation.{Expectation}
 use Rattle.expectations.specs.declared.Marking.{Marking}
@@ -186,7 +186,7 @@ module _ {M : Type 1} (𝓤 : URA M) (H : Heap 𝓤) (A : Atoms 𝓤) (W : Given
   lent = areas ds ts (now ine) (now fan) vs
 
   abbrev answer : Outcome Verdict Areas
-  answer = markOf (now file) (now bef) (now aft) lent (now list)
+  answer = markOf (taskOf (now file)) (wordLists (now bef) (now aft)) lent (now list)
 
   -- what the shared slices own
   abbrev Ofile : Fml
@@ -276,7 +276,7 @@ module _ {M : Type 1} (𝓤 : URA M) (H : Heap 𝓤) (A : Atoms 𝓤) (W : Given
   areas-at ws = areas (zd ws) (zt ws) (zi ws) (zf ws) (zv ws)
 
   abbrev Says : ℕ → ℕ → Wrote → Type 0
-  Says p r ws = asked r (areas-at ws) ≡ askedOf (now file) (now bef) (now aft) lent (leb p (netCount (circuitOf (now file))))
+  Says p r ws = asked r (areas-at ws) ≡ askedOf (taskOf (now file)) (wordLists (now bef) (now aft)) lent (leb p (netsIn (taskOf (now file))))
 
   abbrev Long : Wrote → Type 0
   Long ws = (length (zd ws) ≡ length ds) × ((length (zt ws) ≡ length ts) × ((length (zi ws) ≡ length (now ine)) × ((length (zf ws) ≡ length (now fan)) × (length (zv ws) ≡ length vs))))
@@ -446,7 +446,7 @@ module _ {M : Type 1} (𝓤 : URA M) (H : Heap 𝓤) (A : Atoms 𝓤) (W : Given
         returns-within ! Post refl (look ! 66 refl) $
         forget ! 66 refl $ forget ! 62 refl $ forget ! 60 refl $ forget ! 54 refl $ forget ! 48 refl $ forget ! 44 refl $ forget ! 22 refl $
         move ! (6 ∷ []) $ drop ! $ move ! (4 ∷ []) $ drop ! $ move ! (2 ∷ []) $ drop ! $ move ! (6 ∷ []) $ drop ! $
-        leaves l₀ l₁ l₂ l₃ l₄ l₅ l₆ l₇ l₈ l₉ l₁₀ l₁₁ l₁₂ l₁₃ l₁₄ l₁₅ l₁₆ l₁₇ l₁₈ l₁₉ l₂₀ l₂₁ l₂₂ l₂₃ l₂₄ l₂₅ l₂₆ l₂₇ l₂₈ (Refused r) _ (made r (is₃ .1)) ws (mark-no (now file) (now bef) (now aft) lent (now list) ep (g .0) (apart r 0 differs)) (g .1))
+        leaves l₀ l₁ l₂ l₃ l₄ l₅ l₆ l₇ l₈ l₉ l₁₀ l₁₁ l₁₂ l₁₃ l₁₄ l₁₅ l₁₆ l₁₇ l₁₈ l₁₉ l₂₀ l₂₁ l₂₂ l₂₃ l₂₄ l₂₅ l₂₆ l₂₇ l₂₈ (Refused r) _ (made r (is₃ .1)) ws (mark-no (taskOf (now file)) (wordLists (now bef) (now aft)) lent (now list) ep (g .0) (apart r 0 differs)) (g .1))
         -- no "no": the areas are read
         (λ same.
         assigns ! (addr ! (from ! (fld ! refl (hop ! (look-in ! 62 (sub ! 0 refl (whole !))) (stop !))))) (from ! (stop !)) (init ! 20 refl (tt, tt)) $
@@ -465,7 +465,7 @@ module _ {M : Type 1} (𝓤 : URA M) (H : Heap 𝓤) (A : Atoms 𝓤) (W : Given
         land ! (from ! (stop !)) (init ! 62 refl (EL.lawful Mk.the-type Mk′.the-laws 𝓤 H A W tt .typed x _ is₄ .0)) $
         returns ! (look ! 62 refl) $ forget ! 62 refl $ forget ! 58 refl $ forget ! 56 refl $ forget ! 50 refl $ forget ! 44 refl $ forget ! 40 refl $ forget ! 18 refl $ forget ! 16 refl $
         forget ! 14 refl $ forget ! 12 refl $ forget ! 10 refl $ forget ! 8 refl $ forget ! 6 refl $
-        leaves l₀ l₁ l₂ l₃ l₄ l₅ l₆ l₇ l₈ l₉ l₁₀ l₁₁ l₁₂ l₁₃ l₁₄ l₁₅ l₁₆ l₁₇ l₁₈ l₁₉ l₂₀ l₂₁ l₂₂ l₂₃ l₂₄ l₂₅ l₂₆ l₂₇ l₂₈ x u₄ is₄ ws (mark-yes (now file) (now bef) (now aft) lent (now list) ep (g .0) (none r same) x ex) (g .1)))))))))))))))))))))))))))))))))))))))))))))))))))
+        leaves l₀ l₁ l₂ l₃ l₄ l₅ l₆ l₇ l₈ l₉ l₁₀ l₁₁ l₁₂ l₁₃ l₁₄ l₁₅ l₁₆ l₁₇ l₁₈ l₁₉ l₂₀ l₂₁ l₂₂ l₂₃ l₂₄ l₂₅ l₂₆ l₂₇ l₂₈ x u₄ is₄ ws (mark-yes (taskOf (now file)) (wordLists (now bef) (now aft)) lent (now list) ep (g .0) (none r same) x ex) (g .1)))))))))))))))))))))))))))))))))))))))))))))))))))
 
 module _ {M : Type 1} (𝓤 : URA M) (H : Heap 𝓤) (A : Atoms 𝓤) (W : Given 𝓤 H A) (mem : Memory → SProp 𝓤) (run′ : Routine → Fun 𝓤) (𝓣 : Tables 𝓤 H)
     (known-needs : Triple 𝓤 (𝓣 .C #marking·nets-needed) (Needs 𝓤 H A mem run′)) (known-run : Triple 𝓤 (𝓣 .C #marking·run-asked) (Run 𝓤 H A mem run′)) (known-first : Triple 𝓤 (𝓣 .C #marking·first-unmet) (First 𝓤 H A mem run′)) where

@@ -9,19 +9,19 @@ areas-suit-requires : tie.Need-areas-suit-requires
 areas-suit-requires c κs = search needs
 
 returns : tie.Need-returns
-returns c = plan-no _ _ _ _ _ _ _ _ (c .before .areas-suit .ensures) (c .if1 .taken)
+returns c = plan-no _ _ _ _ _ _ _ (c .before .areas-suit .ensures) (c .if1 .taken)
 
 returns-2 : tie.Need-returns-2
-returns-2 c = values-no _ _ _ _ _ _ _ _ (c .before .before .areas-suit .ensures) (c .before .if1 .left) (c .if2 .taken)
+returns-2 c = values-no _ _ _ _ _ _ _ (c .before .before .areas-suit .ensures) (c .before .if1 .left) (c .if2 .taken)
 
 returns-3 : tie.Need-returns-3
-returns-3 c = before-no _ _ _ _ _ _ _ _ (c .before .before .before .areas-suit .ensures) (c .before .before .if1 .left) (search needs) (c .if3 .taken)
+returns-3 c = before-no _ _ _ _ _ _ _ (c .before .before .before .areas-suit .ensures) (c .before .before .if1 .left) (search needs) (c .if3 .taken)
 
 returns-4 : tie.Need-returns-4
-returns-4 c = after-no _ _ _ _ _ _ _ _ (c .before .before .before .before .areas-suit .ensures) (c .before .before .before .if1 .left) (search needs) (search needs) (c .if4 .taken)
+returns-4 c = after-no _ _ _ _ _ _ _ (c .before .before .before .before .areas-suit .ensures) (c .before .before .before .if1 .left) (search needs) (search needs) (c .if4 .taken)
 
 returns-5 : tie.Need-returns-5
-returns-5 c = none-11 _ _ _ _ _ _ _ _ (c .before .before .before .before .areas-suit .ensures) (c .before .before .before .if1 .left) (search needs) (search needs) (search needs)
+returns-5 c = none-11 _ _ _ _ _ _ _ (c .before .before .before .before .areas-suit .ensures) (c .before .before .before .if1 .left) (search needs) (search needs) (search needs)
 
 pub own-fault-spec : {M : Type 1} → statement M
 own-fault-spec =

@@ -1,13 +1,13 @@
 -- `evaluation::gates::all_gates` meets its contract. After j gates the area holds the words of the inputs and of these gates.
 -- Assumes nothing.
-use Prim.Native.Nat.{ℕ, _+_, _-_, _≤_, _<_}
+use Prim.Native.Nat.{_+_, _-_, _≤_, _<_}
 use mathlib.Core.Path.{_≡_, refl}
-use mathlib.Core.List.{List}
 use native.Mathlib.Omega.{arith}
 use native.Mathlib.Nat.{add-zero}
 use lib.ListN.{length, take}
-use Rattle.method.specs.Frames.{frames}
-use Rattle.circuit.specs.File.{gatesOf, circuitOf}
+use Rattle.method.specs.WordLists.{WordLists}
+use Rattle.circuit.specs.File.{gatesOf}
+use Rattle.circuit.specs.Task.{taskOf, framesIn}
 use Rattle.method.specs.Layout.{allFanins}
 use Rattle.circuit.proofs.Parts.{few}
 use Rattle.evaluation.specs.Steps.{Holds, Ready}
@@ -17,7 +17,7 @@ use Rattle.evaluation.proofs.gates.all_gates.Statement.{statement}
 use Rattle.evaluation.proofs.gates.all_gates.Tie as tie
 
 abbrev Inv-loop : tie.InvT-loop
-Inv-loop file directory inertial fanins values₀ inputs gates at₀ j₀ values at j = (j ≤ gates) × (length values ≡ length values₀) × (at ≡ length (allFanins (take (inputs + j) (frames (circuitOf file))))) × ((before after : List ℕ) → Holds file before after inputs values₀ → Holds file before after (inputs + j) values)
+Inv-loop file directory inertial fanins values₀ inputs gates at₀ j₀ values at j = (j ≤ gates) × (length values ≡ length values₀) × (at ≡ length (allFanins (take (inputs + j) (framesIn (taskOf file))))) × ((w : WordLists) → Holds (taskOf file) w inputs values₀ → Holds (taskOf file) w (inputs + j) values)
 
 abbrev μ-loop : tie.MeasureT-loop
 μ-loop file directory inertial fanins values₀ inputs gates at₀ j₀ values at j = gates - j
@@ -30,7 +30,7 @@ ready c =
     turn-ready (s .pre .0 .0) (s .pre .0 .1) {j = l .j} (omega (arith, c .before .before .loop-test .taken, s .pre .0 .2)) (l .inv .2) (c .before .gate-at .ensures) (length (l .values)) (omega (arith, s .pre .1 .words, l .inv .1))
 
 loop-holds : tie.Need-loop-holds Inv-loop μ-loop
-loop-holds c = (omega arith, refl, rows-start (c .before .before .before .before .before .pre .0 .0) (c .before .before .before .before .before .pre .0 .1), (λ b a h. rw add-zero h))
+loop-holds c = (omega arith, refl, rows-start (c .before .before .before .before .before .pre .0 .0) (c .before .before .before .before .before .pre .0 .1), (λ w h. rw add-zero h))
 
 gate-at-requires : tie.Need-gate-at-requires Inv-loop μ-loop
 gate-at-requires c κs = search needs
@@ -61,7 +61,7 @@ loop-again c =
       omega arith,
       omega (arith, c .before .before .before .gate-words .kept .1 .1 .1 .1 .0, l .inv .1),
       rw (c .entries-of .ensures) (turn-rows (s .pre .0 .0) (s .pre .0 .1) more (l .inv .2) (c .before .before .before .before .before .gate-at .ensures)),
-      (λ b a h. turn-holds (s .pre .0 .0) (s .pre .0 .1) more (l .inv .2) (c .before .before .before .before .before .gate-at .ensures) (omega (arith, s .pre .1 .words, l .inv .1)) (c .before .before .before .gate-words .ensures) (l .inv .3 b a h)),
+      (λ w h. turn-holds (s .pre .0 .0) (s .pre .0 .1) more (l .inv .2) (c .before .before .before .before .before .gate-at .ensures) (omega (arith, s .pre .1 .words, l .inv .1)) (c .before .before .before .gate-words .ensures) (l .inv .3 w h)),
     )
 
 same-length : tie.Need-same-length Inv-loop μ-loop
@@ -70,7 +70,7 @@ same-length c = search needs
 returns : tie.Need-returns Inv-loop μ-loop
 returns c =
     let q : c .before .loop .j ≡ c .before .before .before .before .before .before .before .args .gates = omega (arith, c .loop-test .left) in
-    λ b a h. rw q at (c .before .loop .inv .3 b a h)
+    λ w h. rw q at (c .before .loop .inv .3 w h)
 
 pub all-gates-spec : {M : Type 1} → statement M
 all-gates-spec =

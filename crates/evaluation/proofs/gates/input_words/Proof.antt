@@ -4,6 +4,7 @@ use Prim.Native.Nat.{_-_, _*_, _≤_}
 use mathlib.Core.Path.{_≡_, refl}
 use native.Mathlib.Omega.{arith}
 use lib.ListN.{length, take, length-set}
+use Rattle.method.specs.WordLists.{wordLists}
 use Rattle.evaluation.specs.Steps.{inputWords}
 use Rattle.evaluation.proofs.Driving.{inputs-none, inputs-more}
 use borrow.Author.Needs.{needs}
@@ -11,13 +12,13 @@ use Rattle.evaluation.proofs.gates.input_words.Statement.{statement}
 use Rattle.evaluation.proofs.gates.input_words.Tie as tie
 
 abbrev Inv-loop : tie.InvT-loop
-Inv-loop values₀ before after i₀ values i = (i ≤ length before) × (length values ≡ length values₀) × (take (2 * i) values ≡ inputWords before after i)
+Inv-loop values₀ before after i₀ values i = (i ≤ length before) × (length values ≡ length values₀) × (take (2 * i) values ≡ inputWords (wordLists before after) i)
 
 abbrev μ-loop : tie.MeasureT-loop
 μ-loop values₀ before after i₀ values i = length before - i
 
 loop-holds : tie.Need-loop-holds Inv-loop μ-loop
-loop-holds c = (omega arith, refl, inputs-none (c .args .before .now) (c .args .after .now) (c .args .values .now))
+loop-holds c = (omega arith, refl, inputs-none (wordLists (c .args .before .now) (c .args .after .now)) (c .args .values .now))
 
 mul-values : tie.Need-mul-values Inv-loop μ-loop
 mul-values c = search needs
@@ -62,7 +63,7 @@ loop-again : tie.Need-loop-again Inv-loop μ-loop
 loop-again c =
     let s = c .before .before .before .before in
     let l = c .before .before .before .loop in
-    (omega arith, simp length-set (omega arith), inputs-more (s .args .before .now) (s .args .after .now) (l .values) (l .i) (omega arith) (omega (arith, c .before .shared-slice-known .given (l .i))) (omega (arith, c .shared-slice-known2 .given (l .i))) (l .inv .2))
+    (omega arith, simp length-set (omega arith), inputs-more (wordLists (s .args .before .now) (s .args .after .now)) (l .values) (l .i) (omega arith) (omega (arith, c .before .shared-slice-known .given (l .i))) (omega (arith, c .shared-slice-known2 .given (l .i))) (l .inv .2))
 
 same-length : tie.Need-same-length Inv-loop μ-loop
 same-length c = search needs

@@ -5,6 +5,7 @@ use mathlib.Core.Path.{_≡_, refl}
 use native.Mathlib.Omega.{arith}
 use denote.Ref.{now}
 use Rattle.circuit.specs.File.{circuitOf}
+use Rattle.circuit.specs.Task.{taskOf}
 use Rattle.circuit.proofs.Parts.{gates-length, few}
 use Rattle.method.specs.Areas.{areas}
 use Rattle.layout.specs.Steps.{Going}
@@ -15,7 +16,7 @@ use Rattle.layout.proofs.gates.add_gates.Statement.{statement}
 use Rattle.layout.proofs.gates.add_gates.Tie as tie
 
 abbrev Inv-loop : tie.InvT-loop
-Inv-loop file inputs gates directory₀ times₀ inertial₀ fanins₀ totals₀ j₀ directory times inertial fanins totals j = (j ≤ gates) × Alike (areas directory₀ times₀ inertial₀ fanins₀) (areas directory times inertial fanins) × Going file j (areas directory times inertial fanins) totals
+Inv-loop file inputs gates directory₀ times₀ inertial₀ fanins₀ totals₀ j₀ directory times inertial fanins totals j = (j ≤ gates) × Alike (areas directory₀ times₀ inertial₀ fanins₀) (areas directory times inertial fanins) × Going (taskOf file) j (areas directory times inertial fanins) totals
 
 abbrev μ-loop : tie.MeasureT-loop
 μ-loop file inputs gates directory₀ times₀ inertial₀ fanins₀ totals₀ j₀ directory times inertial fanins totals j = gates - j

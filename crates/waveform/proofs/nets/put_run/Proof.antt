@@ -43,7 +43,7 @@ same-length-6 : tie.Need-same-length-6
 same-length-6 c = search needs
 
 returns : tie.Need-returns
-returns c = wrote-as _ _ (run-refused _ _ _ _ (c .before .before .before .before .before .before .before .before .before .before .before .before .before .before .before .before .before .run .ensures) (c .before .before .before .before .before .number .given .1)) (c .before .before .put-refused .ensures)
+returns c = wrote-as _ _ (run-refused _ _ _ (c .before .before .before .before .before .before .before .before .before .before .before .before .before .before .before .before .before .run .ensures) (c .before .before .before .before .before .number .given .1)) (c .before .before .put-refused .ensures)
 
 same-length-7 : tie.Need-same-length-7
 same-length-7 c = search needs
@@ -64,7 +64,7 @@ same-length-12 : tie.Need-same-length-12
 same-length-12 c = search needs
 
 returns-2 : tie.Need-returns-2
-returns-2 c = wrote-as _ _ (run-lines _ _ _ _ (c .before .before .before .before .before .before .before .before .before .before .before .before .before .before .before .before .before .before .before .before .run .ensures) (c .before .before .before .before .before .before .before .before .enum-told .given .1) (c .before .before .before .net-count .ensures)) (c .before .before .put-nets .ensures)
+returns-2 c = wrote-as _ _ (run-lines _ _ _ (c .before .before .before .before .before .before .before .before .before .before .before .before .before .before .before .before .before .before .before .before .run .ensures) (c .before .before .before .before .before .before .before .before .enum-told .given .1) (c .before .before .before .net-count .ensures)) (c .before .before .put-nets .ensures)
 
 pub put-run-spec : {M : Type 1} → statement M
 put-run-spec =

@@ -4,6 +4,7 @@ use Prim.Native.Nat.{ℕ}
 use mathlib.Core.Path.{_≡_, refl}
 use native.Mathlib.Omega.{arith}
 use lib.ListN.{length, replicate, length-replicate}
+use Rattle.method.specs.WordLists.{wordLists}
 use Rattle.waveform.proofs.Taking.{list-few, list-small, list-taken, list-kept}
 use Rattle.text.proofs.Putting.{wrote-as}
 use Rattle.waveform.proofs.Answering.{areas-pass, answer-is}
@@ -65,7 +66,7 @@ returns c =
     let kept = list-kept part (s .args .before .now) (s .pre .0) _ first in
     let before = list-taken part (s .args .before .now) (s .pre .0) 0 first refl in
     let after = list-taken part (s .args .after .now) (s .pre .1) _ (c .before .before .before .before .before .before .before .before .before .before .before .before .before .before .before .before .before .before .take-words2 .ensures) kept in
-    wrote-as _ _ (answer-is (s .args .file .now) part _ (areas-pass _ _ _ _ _ (zeros 320) (zeros 2048) (zeros 2048) (zeros 16384) (zeros 2048)) before after) (c .before .before .before .before .before .before .before .put-run .ensures)
+    wrote-as _ _ (answer-is (s .args .file .now) part _ (areas-pass _ _ _ _ _ (zeros 320) (zeros 2048) (zeros 2048) (zeros 16384) (zeros 2048)) {w = wordLists _ _} before after) (c .before .before .before .before .before .before .before .put-run .ensures)
 
 pub put-with-words-spec : {M : Type 1} → statement M
 put-with-words-spec =

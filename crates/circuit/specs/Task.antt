@@ -1,0 +1,62 @@
+-- What a call that plans is handed, its task: today the circuit file. And what follows from a task and, in a run, from its words:
+-- the frames, the packed values, and in each lane the machine.
+use Prim.Native.Nat.{ℕ}
+use mathlib.Core.Bool.{Bool}
+use mathlib.Core.List.{List}
+use Rattle.method.specs.Circuit.{Circuit}
+use Rattle.method.specs.Stimulus.{Stimuli}
+use Rattle.method.specs.Frames.{Frames, frames, framesAt}
+use Rattle.method.specs.Traces.{traceAt}
+use Rattle.method.specs.Machine.{Wave, machine}
+use Rattle.method.specs.Packed.{laneOf, packedValues}
+use Rattle.method.specs.Values.{netCount, allValues}
+use Rattle.method.specs.Agreement.{potential}
+use Rattle.method.specs.WordLists.{WordLists}
+use Rattle.circuit.specs.File.{circuitOf}
+
+pub record Task : Type 0 where
+  pub file : List ℕ
+
+abbrev pub taskOf : List ℕ → Task
+taskOf file = record { file = file }
+
+-- ---- of a task alone: no word enters these
+
+abbrev pub circuitIn : Task → Circuit
+circuitIn task = circuitOf (task .file)
+
+-- how many nets there are
+abbrev pub netsIn : Task → ℕ
+netsIn task = netCount (circuitIn task)
+
+-- the frames of all nets
+abbrev pub framesIn : Task → List Frames
+framesIn task = frames (circuitIn task)
+
+-- the potential times of net n, and whether t is one
+abbrev pub timesIn : Task → ℕ → List ℕ
+timesIn task n = framesAt (circuitIn task) n .times
+
+abbrev pub potentialIn : Task → ℕ → ℕ → Bool
+potentialIn task n t = potential (circuitIn task) n t
+
+-- ---- of a task run for these words
+
+-- what drives the inputs in lane L: the lane's pattern pair
+abbrev pub stimuliIn : Task → WordLists → ℕ → Stimuli
+stimuliIn task w L = laneOf L w
+
+-- in lane L net n's values, frame by frame, and its level in the time-by-time machine, each run for that lane's pattern pair by
+-- itself
+abbrev pub laneValues : Task → WordLists → ℕ → ℕ → List Bool
+laneValues task w L n = traceAt (circuitIn task) (stimuliIn task w L) n .values
+
+abbrev pub machineIn : Task → WordLists → ℕ → ℕ → Wave
+machineIn task w L n = machine (circuitIn task) (stimuliIn task w L) n
+
+-- the packed values of net n, and those of all nets
+abbrev pub packedIn : Task → WordLists → ℕ → List ℕ
+packedIn task w n = packedValues (circuitIn task) w n
+
+abbrev pub allPackedIn : Task → WordLists → List ℕ
+allPackedIn task w = allValues (circuitIn task) w

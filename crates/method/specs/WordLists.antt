@@ -1,0 +1,19 @@
+-- The words that a run is handed: for each input a before word and an after word, whose bits are the 64 lanes.
+use Prim.Native.Nat.{ℕ}
+use mathlib.Core.List.{List}
+use lib.ListN.{length}
+
+pub record WordLists : Type 0 where
+  pub before : List ℕ
+  pub after : List ℕ
+
+abbrev pub wordLists : List ℕ → List ℕ → WordLists
+wordLists before after = record { before = before; after = after }
+
+-- how many words each list has: all that a question takes of them
+pub record Lengths : Type 0 where
+  pub before : ℕ
+  pub after : ℕ
+
+abbrev pub lengthsOf : WordLists → Lengths
+lengthsOf w = record { before = length (w .before); after = length (w .after) }
