@@ -4,6 +4,7 @@ use crate::nets::read_look;
 use crate::nets::show_net;
 use crate::print::show_planning;
 use crate::print::show_reading;
+use method::Tick;
 use testbench::after_count;
 use testbench::before_count;
 use testbench::directory_length;
@@ -14,8 +15,9 @@ use testbench::inertial_length;
 use testbench::read_case;
 use testbench::rubbish_directory;
 use testbench::rubbish_fanins;
-use testbench::rubbish_frames;
+use testbench::rubbish_inertial;
 use testbench::rubbish_of;
+use testbench::rubbish_times;
 use testbench::rubbish_values;
 use testbench::show_plan_sums;
 use testbench::show_semicolon;
@@ -65,8 +67,8 @@ fn plan_case(head: [u8; 18], file: &[u8]) {
         head,
         file,
         rubbish_directory(r),
-        rubbish_frames(r),
-        rubbish_frames(r),
+        rubbish_times(r),
+        rubbish_inertial(r),
         rubbish_fanins(r),
     );
 }
@@ -75,7 +77,7 @@ fn plan_in(
     head: [u8; 18],
     file: &[u8],
     mut d: [u16; 400],
-    mut t: [u16; 2100],
+    mut t: [Tick; 2100],
     mut i: [u16; 2100],
     mut f: [u16; 16400],
 ) {
@@ -92,7 +94,7 @@ fn plan_in(
 // The questions are lent the areas to be read only, so that there is nothing left to be seen in them.
 fn questions_case(head: [u8; 18], file: &[u8], before: &[u64], after: &[u64]) {
     let d = [0u16; 400];
-    let t = [0u16; 2100];
+    let t: [Tick; 2100] = [0; 2100];
     let i = [0u16; 2100];
     let f = [0u16; 16400];
     let v = [0u64; 2100];
@@ -117,8 +119,8 @@ fn run_case(head: [u8; 18], look: Look, file: &[u8], before: &[u64], after: &[u6
         before,
         after,
         rubbish_directory(r),
-        rubbish_frames(r),
-        rubbish_frames(r),
+        rubbish_times(r),
+        rubbish_inertial(r),
         rubbish_fanins(r),
         rubbish_values(r),
     );
@@ -131,7 +133,7 @@ fn run_in(
     before: &[u64],
     after: &[u64],
     mut d: [u16; 400],
-    mut t: [u16; 2100],
+    mut t: [Tick; 2100],
     mut i: [u16; 2100],
     mut f: [u16; 16400],
     mut v: [u64; 2100],
@@ -155,7 +157,7 @@ fn show_left(
     head: [u8; 18],
     look: Look,
     d: &[u16; 400],
-    t: &[u16; 2100],
+    t: &[Tick; 2100],
     i: &[u16; 2100],
     f: &[u16; 16400],
     v: &[u64; 2100],

@@ -5,6 +5,7 @@ use crate::print::show_frame;
 use looks::Counted;
 use looks::Seen;
 use method::Net;
+use method::Tick;
 use method::Time;
 use testbench::Span;
 use testbench::directory_length;
@@ -28,7 +29,7 @@ pub(crate) fn read_look() -> Look {
     Look {
         whole: whole,
         net: Net(numbers::number_at(&bytes, 0)),
-        time: Time(numbers::number_at(&bytes, 2)),
+        time: Time(numbers::number_at(&bytes, 2) as Tick),
     }
 }
 
@@ -37,7 +38,7 @@ pub(crate) fn show_net(
     head: [u8; 18],
     look: Look,
     directory: &[u16; 400],
-    times: &[u16; 2100],
+    times: &[Tick; 2100],
     values: &[u64; 2100],
 ) {
     let d = &directory[..];
@@ -52,7 +53,7 @@ pub(crate) fn show_net(
     );
 }
 
-fn show_frames(times: &[u16; 2100], values: &[u64; 2100], span: Span, time: Time)
+fn show_frames(times: &[Tick; 2100], values: &[u64; 2100], span: Span, time: Time)
     requires { ⌜ (span .first ≤ span .end) × (span .end ≤ 2048) ⌝ }
 {
     let t = &times[..];
@@ -63,7 +64,7 @@ fn show_frames(times: &[u16; 2100], values: &[u64; 2100], span: Span, time: Time
 }
 
 // Prints the level at the time in all lanes, the frame that lane 63 has there, and a sum of the lanes' counts.
-fn show_lanes(times: &[u16], values: &[u64], time: Time) {
+fn show_lanes(times: &[Tick], values: &[u64], time: Time) {
     match looks::level(times, values, 63, time) {
         Seen::Level(seen) => {
             streams::write_hex(levels_of(times, values, time), 16);
@@ -75,7 +76,7 @@ fn show_lanes(times: &[u16], values: &[u64], time: Time) {
 }
 
 // Bit L is the level of lane L.
-fn levels_of(times: &[u16], values: &[u64], time: Time) -> u64 {
+fn levels_of(times: &[Tick], values: &[u64], time: Time) -> u64 {
     let mut word: u64 = 0;
     let mut left: u8 = 64;
     while 0 < left {
@@ -92,7 +93,7 @@ fn bit_of(answer: Seen) -> u64 {
     }
 }
 
-fn counts_of(times: &[u16], values: &[u64]) -> u64 {
+fn counts_of(times: &[Tick], values: &[u64]) -> u64 {
     let mut sum: u64 = 0;
     let mut lane: u8 = 0;
     while lane < 64 {

@@ -2,6 +2,7 @@
 ghost use Prim.Native.Nat.{_≤_};
 use crate::print::show_counted;
 use crate::print::show_seen;
+use method::Tick;
 use method::Time;
 use testbench::Words;
 use testbench::end_line;
@@ -45,21 +46,21 @@ fn with_times(head: [u8; 5], bytes: &mut [u8]) -> bool {
     if !read_all(bytes) {
         return false;
     }
-    with_values(head, numbers_of(bytes), read_words(values_count(head)))
+    with_values(head, ticks_of(bytes), read_words(values_count(head)))
 }
 
-// The first two-byte numbers; those behind the end are 0.
-fn numbers_of(bytes: &[u8]) -> [u16; 80] {
-    let mut row = [0u16; 80];
+// The first two-byte numbers, as times; those behind the end are 0.
+fn ticks_of(bytes: &[u8]) -> [Tick; 80] {
+    let mut row: [Tick; 80] = [0; 80];
     let mut k = 0;
     while k < 80 {
-        row[k] = numbers::number_at(bytes, 2 * k);
+        row[k] = numbers::number_at(bytes, 2 * k) as Tick;
         k += 1;
     }
     row
 }
 
-fn with_values(head: [u8; 5], times: [u16; 80], values: Words) -> bool {
+fn with_values(head: [u8; 5], times: [Tick; 80], values: Words) -> bool {
     if !values.whole {
         return false;
     }
@@ -68,7 +69,7 @@ fn with_values(head: [u8; 5], times: [u16; 80], values: Words) -> bool {
 }
 
 // Prints what Level and Count answer.
-fn show_line(head: [u8; 5], times: [u16; 80], values: [u64; 80]) -> bool {
+fn show_line(head: [u8; 5], times: [Tick; 80], values: [u64; 80]) -> bool {
     let t = &times[0..times_count(head)];
     let v = &values[0..values_count(head)];
     let lane = head[2];
@@ -79,5 +80,5 @@ fn show_line(head: [u8; 5], times: [u16; 80], values: [u64; 80]) -> bool {
 }
 
 fn time_of(head: [u8; 5]) -> Time {
-    Time(numbers::number_at(&head, 3))
+    Time(numbers::number_at(&head, 3) as Tick)
 }

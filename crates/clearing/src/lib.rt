@@ -1,6 +1,7 @@
 // Lent areas set to zeros: a function for each width of their entries.
 ghost use mathlib.Core.Path.{_≡_};
 ghost use Rattle.lists.specs.Areas.{cleared};
+use lists::Tick;
 
 // Sets every number of the area to 0.
 pub fn clear(area: &mut [u16])
@@ -10,6 +11,17 @@ pub fn clear(area: &mut [u16])
     while i < area.len() {
         area[i] = 0;
         i += 1;
+    }
+}
+
+// The same of times.
+pub fn clear_ticks(times: &mut [Tick])
+    ensures { λ _. ⌜ now (times .exit) ≡ cleared (now (times .entry)) ⌝ }
+{
+    let mut t = 0;
+    while t < times.len() {
+        times[t] = 0;
+        t += 1;
     }
 }
 

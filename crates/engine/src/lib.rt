@@ -12,6 +12,7 @@ ghost use Rattle.engine.specs.Run.{runOf};
 mod running;
 
 use circuit::Reading;
+use method::Tick;
 use planner::Planning;
 use running::own_fault;
 use running::simulate;
@@ -21,7 +22,7 @@ use running::simulate;
 pub fn run(
     file: &[u8],
     directory: &mut [u16],
-    times: &mut [u16],
+    times: &mut [Tick],
     inertial: &mut [u16],
     fanins: &mut [u16],
     values: &mut [u64],
@@ -60,7 +61,7 @@ pub fn run(
 pub fn questions(
     file: &[u8],
     directory: &[u16],
-    times: &[u16],
+    times: &[Tick],
     inertial: &[u16],
     fanins: &[u16],
     values: &[u64],

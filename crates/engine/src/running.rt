@@ -11,6 +11,7 @@ ghost use Rattle.engine.specs.Questions.{ownQuestions};
 ghost use Rattle.engine.specs.Run.{runOf};
 ghost use Rattle.engine.specs.Steps.{Asked};
 use layout::Progress;
+use method::Tick;
 use planner::Planning;
 
 const VALUES_LENGTH: usize = 2048;
@@ -19,7 +20,7 @@ const VALUES_LENGTH: usize = 2048;
 pub(crate) fn own_fault(
     inputs: u16,
     directory: &[u16],
-    times: &[u16],
+    times: &[Tick],
     inertial: &[u16],
     fanins: &[u16],
     values: &[u64],
@@ -50,7 +51,7 @@ pub(crate) fn simulate(
     inputs: u16,
     gates: u16,
     directory: &mut [u16],
-    times: &mut [u16],
+    times: &mut [Tick],
     inertial: &mut [u16],
     fanins: &mut [u16],
     values: &mut [u64],

@@ -8,6 +8,7 @@ use crate::Expectation;
 use crate::Marking;
 use looks::Until;
 use method::Frame;
+use method::Tick;
 use slices::entry_at;
 
 // How many frames the net of an expectation has.
@@ -22,7 +23,7 @@ fn frame_count<'a>(e: Expectation, directory: &'a [u16]) -> u16
 fn breaks<'a>(
     e: Expectation,
     directory: &'a [u16],
-    times: &'a [u16],
+    times: &'a [Tick],
     values: &'a [u64],
     frame: Frame,
 ) -> bool
@@ -47,7 +48,7 @@ fn breaks<'a>(
 // The first expectation that some frame breaks, with the first frame that does. Proved by hand, as the list is lent.
 pub fn first_unmet<'a>(
     directory: &'a [u16],
-    times: &'a [u16],
+    times: &'a [Tick],
     values: &'a [u64],
     list: &'a [Expectation],
 ) -> Marking

@@ -14,11 +14,12 @@ ghost use Rattle.framing.specs.Steps.{Shown, column};
 use circuit::GateRecord;
 use gathering::times_of;
 use method::Frame;
+use method::Tick;
 use method::Time;
 
 // Writes the inertial index of each of a gate's own times, from `first` on; `reach` is the inertial delay. The end of what
 // is within reach never moves back, so each search goes on where the one before ended.
-pub(crate) fn inertial_row(own: &[u16], reach: u16, inertial: &mut [u16], first: usize)
+pub(crate) fn inertial_row(own: &[Tick], reach: Tick, inertial: &mut [u16], first: usize)
     requires { ⌜ Span (now own) ⌝ }
     requires { ⌜ (reach ≤ mostDelay) × (first + length (now own) ≤ length (now inertial)) ⌝ }
     ensures { λ _. ⌜ now (inertial .exit) ≡ sets (now (inertial .entry)) first (inertialIndices reach (now (own .entry))) ⌝ }
@@ -38,8 +39,8 @@ pub(crate) fn index_rows(
     file: &[u8],
     gate: GateRecord,
     directory: &[u16],
-    times: &[u16],
-    own: &[u16],
+    times: &[Tick],
+    own: &[Tick],
     fanins: &mut [u16],
     first: usize,
 )
@@ -68,7 +69,14 @@ pub(crate) fn index_rows(
 
 // Writes the index of one fan-in at each of a gate's own times, one every `width` places, from `at` on. Each later time of
 // the fan-in plus the delay is an own time, so the fan-in comes at most one frame on from one to the next.
-fn index_column(fanin: &[u16], delay: u16, own: &[u16], fanins: &mut [u16], at: usize, width: usize)
+fn index_column(
+    fanin: &[Tick],
+    delay: Tick,
+    own: &[Tick],
+    fanins: &mut [u16],
+    at: usize,
+    width: usize,
+)
     requires { ⌜ Span (now fanin) × (delay ≤ mostDelay) ⌝ }
     requires { ⌜ Span (now own) × Shown delay (now fanin) (now own) ⌝ }
     requires { ⌜ (width ≤ mostFanins) × (at + length (now own) * width < length (now fanins) + width) ⌝ }
@@ -88,7 +96,7 @@ fn index_column(fanin: &[u16], delay: u16, own: &[u16], fanins: &mut [u16], at: 
 
 // How many frames of the fan-in behind frame 0 have begun at this time less the delay, which is also the number of the last
 // that has: `from`, or one more. A count, which goes straight into the next turn's place.
-fn begun_by(fanin: &[u16], delay: u16, from: usize, time: Time) -> usize
+fn begun_by(fanin: &[Tick], delay: Tick, from: usize, time: Time) -> usize
     requires { ⌜ Span (now fanin) × (delay ≤ mostDelay) ⌝ }
     requires { ⌜ (from ≤ lastFrame (now fanin) (time .0 - delay)) × (lastFrame (now fanin) (time .0 - delay) ≤ from + 1) ⌝ }
     ensures { λ r. ⌜ r ≡ lastFrame (now (fanin .entry)) (time .0 - delay) ⌝ }

@@ -17,6 +17,7 @@ use circuit::GateRecord;
 use indices::index_rows;
 use indices::inertial_row;
 use method::Net;
+use method::Tick;
 use method::Time;
 use method::Totals;
 
@@ -25,9 +26,9 @@ pub fn store_gate(
     file: &[u8],
     gate: GateRecord,
     net: Net,
-    own: &[u16],
+    own: &[Tick],
     directory: &mut [u16],
-    times: &mut [u16],
+    times: &mut [Tick],
     inertial: &mut [u16],
     fanins: &mut [u16],
     totals: Totals,

@@ -15,6 +15,7 @@ ghost use Rattle.method.specs.Layout.{partOf};
 ghost use Rattle.gathering.specs.Steps.{Added, Fed, Inserted, Put, Span, into, plus, spans};
 use circuit::GateRecord;
 use method::Net;
+use method::Tick;
 use method::Time;
 
 // Puts 0, and each later time of each fan-in plus the delay, at the front of `gathered`, rising, each once; how many.
@@ -23,8 +24,8 @@ pub fn gate_times(
     file: &[u8],
     gate: GateRecord,
     directory: &[u16],
-    times: &[u16],
-    gathered: &mut [u16],
+    times: &[Tick],
+    gathered: &mut [Tick],
 ) -> usize
     requires { ⌜ Fed (now file) gate (now directory) (now times) ⌝ }
     requires { ⌜ 1 + mostFanins * mostNetFrames < length (now gathered) ⌝ }
@@ -45,8 +46,8 @@ fn gather_times(
     file: &[u8],
     gate: GateRecord,
     directory: &[u16],
-    times: &[u16],
-    gathered: &mut [u16],
+    times: &[Tick],
+    gathered: &mut [Tick],
 ) -> usize
     requires { ⌜ Fed (now file) gate (now directory) (now times) ⌝ }
     requires { ⌜ 1 + mostFanins * mostNetFrames < length (now gathered) ⌝ }
@@ -67,7 +68,7 @@ fn gather_times(
 }
 
 // The same for two fan-ins with these times: at each turn the earlier of the two next ones, or both where they are the same.
-fn merge_times(one: &[u16], other: &[u16], delay: u16, gathered: &mut [u16]) -> usize
+fn merge_times(one: &[Tick], other: &[Tick], delay: Tick, gathered: &mut [Tick]) -> usize
     requires { ⌜ Span (now one) × Span (now other) × (delay ≤ mostDelay) ⌝ }
     requires { ⌜ length (now one) + length (now other) < length (now gathered) ⌝ }
     ensures { λ r. ⌜ Put (now (gathered .exit)) (gateTimes delay (now (one .entry) ∷ now (other .entry) ∷ [])) (length (now (one .entry)) + length (now (other .entry))) r ⌝ }
@@ -92,7 +93,7 @@ fn merge_times(one: &[u16], other: &[u16], delay: u16, gathered: &mut [u16]) -> 
 
 // Puts the times of a fan-in from frame `from` on, each plus the delay, behind the first `count` gathered; how many there
 // are then.
-fn add_rest(fanin: &[u16], from: usize, delay: u16, gathered: &mut [u16], count: usize) -> usize
+fn add_rest(fanin: &[Tick], from: usize, delay: Tick, gathered: &mut [Tick], count: usize) -> usize
     requires { ⌜ Span (now fanin) × (delay ≤ mostDelay) × (from ≤ length (now fanin)) × (count + (length (now fanin) - from) ≤ length (now gathered)) ⌝ }
     ensures { λ r. ⌜ Added (now (gathered .entry)) (now (gathered .exit)) count (plus delay (drop from (now (fanin .entry)))) r ⌝ }
 {
@@ -107,7 +108,7 @@ fn add_rest(fanin: &[u16], from: usize, delay: u16, gathered: &mut [u16], count:
 }
 
 // The times of a net that is planned.
-pub fn times_of<'a>(directory: &[u16], times: &'a [u16], net: Net) -> &'a [u16]
+pub fn times_of<'a>(directory: &[u16], times: &'a [Tick], net: Net) -> &'a [Tick]
     requires { ⌜ 2 * net .0 + 1 < length (now directory) ⌝ }
     requires { ⌜ getD (now directory) (2 * net .0) 0 + getD (now directory) (2 * net .0 + 1) 0 ≤ length (now times) ⌝ }
     ensures { λ r. ⌜ now r ≡ partOf (now (directory .entry)) (now (times .entry)) (net .0) ⌝ }
@@ -120,7 +121,7 @@ pub fn times_of<'a>(directory: &[u16], times: &'a [u16], net: Net) -> &'a [u16]
 
 // Puts the later times of a fan-in, each plus the delay, in their places among the first `count` gathered; how many there
 // are then. They rise, so each place is sought from the one before.
-fn add_times(fanin: &[u16], delay: u16, gathered: &mut [u16], count: usize) -> usize
+fn add_times(fanin: &[Tick], delay: Tick, gathered: &mut [Tick], count: usize) -> usize
     requires { ⌜ (startAndRise (now fanin) ≡ true) × ((i : ℕ) → getD (now fanin) i 0 ≤ mostTime) ⌝ }
     requires { ⌜ (1 ≤ delay) × (delay ≤ mostDelay) × (count + length (now fanin) < length (now gathered)) ⌝ }
     ensures { λ r. ⌜ Put (now (gathered .exit)) (into delay (drop 1 (now (fanin .entry))) (take count (now (gathered .entry)))) (count + length (now (fanin .entry))) r ⌝ }
@@ -138,7 +139,7 @@ fn add_times(fanin: &[u16], delay: u16, gathered: &mut [u16], count: usize) -> u
 }
 
 // Puts a time, not 0, at its place among the first `count` gathered, unless it is there; how many there are then.
-fn put_time(gathered: &mut [u16], count: usize, place: usize, time: Time) -> usize
+fn put_time(gathered: &mut [Tick], count: usize, place: usize, time: Time) -> usize
     requires { ⌜ (count < length (now gathered)) × (1 ≤ time .0) × (place ≡ leading (time .0 - 1) (take count (now gathered))) ⌝ }
     ensures { λ r. ⌜ Inserted (now (gathered .entry)) (now (gathered .exit)) count (time .0) r ⌝ }
 {
@@ -155,7 +156,7 @@ fn put_time(gathered: &mut [u16], count: usize, place: usize, time: Time) -> usi
 }
 
 // Moves the numbers from `place` up to `count` one place on.
-fn shift(gathered: &mut [u16], place: usize, count: usize)
+fn shift(gathered: &mut [Tick], place: usize, count: usize)
     requires { ⌜ (place ≤ count) × (count < length (now gathered)) ⌝ }
     ensures { λ _. ⌜ now (gathered .exit) ≡ take (place + 1) (now (gathered .entry)) ++ (drop place (take count (now (gathered .entry))) ++ drop (count + 1) (now (gathered .entry))) ⌝ }
 {

@@ -10,6 +10,7 @@ use crate::Progress;
 use framing::store_gate;
 use gathering::gate_times;
 use method::Net;
+use method::Tick;
 use method::Totals;
 
 const MOST_NET_FRAMES: usize = 64;
@@ -25,7 +26,7 @@ pub(crate) fn add_gates(
     inputs: u16,
     gates: u16,
     directory: &mut [u16],
-    times: &mut [u16],
+    times: &mut [Tick],
     inertial: &mut [u16],
     fanins: &mut [u16],
     start: Totals,
@@ -62,7 +63,7 @@ fn add_gate(
     j: u16,
     net: Net,
     directory: &mut [u16],
-    times: &mut [u16],
+    times: &mut [Tick],
     inertial: &mut [u16],
     fanins: &mut [u16],
     totals: Totals,
@@ -73,7 +74,7 @@ fn add_gate(
 {
     let gate = circuit::gate_at(file, j);
     let first = totals.frames;
-    let mut gathered = [0u16; GATHERED_LENGTH];
+    let mut gathered: [Tick; GATHERED_LENGTH] = [0; GATHERED_LENGTH];
     let count = gate_times(file, gate, directory, times, &mut gathered);
     if MOST_NET_FRAMES < count {
         return Progress::TooMany;

@@ -13,6 +13,7 @@ ghost use Rattle.layout.specs.Steps.{Given, Filled};
 mod gates;
 
 use gates::add_gates;
+use method::Tick;
 use method::Time;
 use method::Totals;
 
@@ -32,7 +33,7 @@ pub fn fill(
     inputs: u16,
     gates: u16,
     directory: &mut [u16],
-    times: &mut [u16],
+    times: &mut [Tick],
     inertial: &mut [u16],
     fanins: &mut [u16],
 ) -> Progress
@@ -57,18 +58,18 @@ pub fn fill(
     Progress::Planned(totals)
 }
 
-fn clear_all(directory: &mut [u16], times: &mut [u16], inertial: &mut [u16], fanins: &mut [u16])
+fn clear_all(directory: &mut [u16], times: &mut [Tick], inertial: &mut [u16], fanins: &mut [u16])
     ensures { λ _. ⌜ areas (now (directory .exit)) (now (times .exit)) (now (inertial .exit)) (now (fanins .exit)) ≡ allCleared (areas (now (directory .entry)) (now (times .entry)) (now (inertial .entry)) (now (fanins .entry))) ⌝ }
 {
     clearing::clear(directory);
-    clearing::clear(times);
+    clearing::clear_ticks(times);
     clearing::clear(inertial);
     clearing::clear(fanins);
 }
 
 // Writes the pairs and the times of the inputs into areas of zeros, and answers their totals. Their inertial indices are 0,
 // and they have no fan-in rows.
-fn add_inputs(directory: &mut [u16], times: &mut [u16], inputs: u16) -> Totals
+fn add_inputs(directory: &mut [u16], times: &mut [Tick], inputs: u16) -> Totals
     requires { ⌜ (1 ≤ inputs) × (inputs ≤ mostInputs) × (2 * inputs ≤ length (now directory)) × (2 * inputs ≤ length (now times)) × Inputs (now directory) (now times) 0 ⌝ }
     ensures { λ r. ⌜ Inputs (now (directory .exit)) (now (times .exit)) inputs × (r ≡ totalsOf (inputsOnly inputs)) ⌝ }
 {

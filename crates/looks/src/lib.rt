@@ -9,6 +9,7 @@ mod sights;
 use looking::changes;
 use looking::last_frame;
 use looking::look_fault;
+use method::Tick;
 use method::Time;
 pub use parts::times_of;
 pub use parts::values_of;
@@ -41,7 +42,7 @@ pub enum Counted {
 
 // The level of a lane at a time, with begin and end of the frame that holds the time, from one net's parts of the times and
 // the values: questions 14 to 16.
-pub fn level(times: &[u16], values: &[u64], lane: u8, time: Time) -> Seen
+pub fn level(times: &[Tick], values: &[u64], lane: u8, time: Time) -> Seen
     ensures { λ r. ⌜ seenOnPaper r ≡ levelOf (now (times .entry)) (now (values .entry)) lane (time .0) ⌝ }
 {
     let fault = look_fault(times, values, lane);
@@ -53,7 +54,7 @@ pub fn level(times: &[u16], values: &[u64], lane: u8, time: Time) -> Seen
 }
 
 // How often a lane changes, from one net's parts of the times and the values: questions 14 to 16.
-pub fn count(times: &[u16], values: &[u64], lane: u8) -> Counted
+pub fn count(times: &[Tick], values: &[u64], lane: u8) -> Counted
     ensures { λ r. ⌜ countedOnPaper r ≡ countOf (now (times .entry)) (now (values .entry)) lane ⌝ }
 {
     let fault = look_fault(times, values, lane);

@@ -12,6 +12,7 @@ ghost use Rattle.method.specs.Words as bits;
 ghost use Rattle.method.specs.Limits.{mostNetFrames};
 ghost use Rattle.looks.specs.Look.{lookQuestions};
 use method::Frame;
+use method::Tick;
 use method::Time;
 
 // A net has at most this many frames.
@@ -20,7 +21,7 @@ const MOST_NET_FRAMES: usize = 64;
 const LAST_LANE: u8 = 63;
 
 // Questions 14 to 16: the number of the first "no", or 0.
-pub(crate) fn look_fault(times: &[u16], values: &[u64], lane: u8) -> u8
+pub(crate) fn look_fault(times: &[Tick], values: &[u64], lane: u8) -> u8
     ensures { λ r. ⌜ r ≡ firstNo (lookQuestions (now (times .entry)) (now (values .entry)) lane) ⌝ }
 {
     let frames = times.len();
@@ -43,7 +44,7 @@ pub(crate) fn look_fault(times: &[u16], values: &[u64], lane: u8) -> u8
 }
 
 // Question 15.
-fn start_and_rise(times: &[u16]) -> bool
+fn start_and_rise(times: &[Tick]) -> bool
     ensures { λ r. ⌜ r ≡ startAndRise (now (times .entry)) ⌝ }
 {
     if times.len() == 0 {
@@ -63,7 +64,7 @@ fn start_and_rise(times: &[u16]) -> bool
 }
 
 // The last frame not later than the time. There is one, since time 0 is not later.
-pub(crate) fn last_frame(times: &[u16], time: Time) -> Frame
+pub(crate) fn last_frame(times: &[Tick], time: Time) -> Frame
     requires { ⌜ (startAndRise (now times) ≡ true) × (length (now times) ≤ mostNetFrames) ⌝ }
     ensures { λ r. ⌜ r .0 ≡ lastFrame (now (times .entry)) (time .0) ⌝ }
 {

@@ -3,6 +3,7 @@ ghost use mathlib.Core.Path.{_≡_};
 ghost use Prim.Native.Nat.{_+_, min};
 ghost use Rattle.method.specs.Layout.{firstFrame, frameCount, partOf};
 use method::Net;
+use method::Tick;
 use slices::entry_at;
 
 // Where the frames of a net lie in an area.
@@ -12,7 +13,7 @@ struct Span {
 }
 
 // The net's part of the times, by its pair in the directory. Of a pair that reaches beyond the area it is what is there.
-pub fn times_of<'a>(directory: &[u16], times: &'a [u16], net: Net) -> &'a [u16]
+pub fn times_of<'a>(directory: &[u16], times: &'a [Tick], net: Net) -> &'a [Tick]
     ensures { λ r. ⌜ now r ≡ partOf (now (directory .entry)) (now (times .entry)) (net .0) ⌝ }
 {
     let span = span_of(directory, net, times.len());

@@ -8,18 +8,19 @@ ghost use Rattle.looks.specs.Sight.{endBy, sightAt, endOnPaper, sightOnP
 use crate::Sight;
 use crate::Until;
 use method::Frame;
+use method::Tick;
 use method::Time;
-use slices::entry_at;
+use slices::tick_at;
 use slices::word_at;
 
 // What is seen in the lane at the frame, from one net's parts of the times and the values, whatever they hold: nothing is
 // asked of them. What they do not have is level 0, time 0 and no end.
-pub fn sight_at(times: &[u16], values: &[u64], lane: u8, frame: Frame) -> Sight
+pub fn sight_at(times: &[Tick], values: &[u64], lane: u8, frame: Frame) -> Sight
     ensures { λ r. ⌜ sightOnPaper r ≡ sightAt (now (times .entry)) (map (bits.lane lane) (now (values .entry))) (frame .0) ⌝ }
 {
     let k = frame.0 as usize;
     let level = words::bit_of(word_at(values, k), lane);
-    let began = Time(entry_at(times, k));
+    let began = Time(tick_at(times, k));
     Sight {
         level: level,
         began: began,
@@ -28,7 +29,7 @@ pub fn sight_at(times: &[u16], values: &[u64], lane: u8, frame: Frame) -> Sight
 }
 
 // Until when the frame lasts.
-fn until(times: &[u16], frame: Frame) -> Until
+fn until(times: &[Tick], frame: Frame) -> Until
     ensures { λ r. ⌜ endOnPaper r ≡ endBy (drop (suc (frame .0)) (now (times .entry))) ⌝ }
 {
     let k = frame.0 as usize;

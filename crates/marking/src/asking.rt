@@ -6,6 +6,7 @@ ghost use Rattle.method.specs.WordLists.{wordLists};
 ghost use Rattle.circuit.specs.Task.{taskOf, netsIn};
 ghost use Rattle.marking.specs.Steps.{asked, askedOf};
 use circuit::Reading;
+use method::Tick;
 use planner::Planning;
 
 // Questions 1 to 11, then 12, whether there are as many nets as the list needs, then Run with 13: the number of the first
@@ -13,7 +14,7 @@ use planner::Planning;
 pub(crate) fn run_asked<'w, 'a>(
     file: &'a [u8],
     directory: &'w mut [u16],
-    times: &'w mut [u16],
+    times: &'w mut [Tick],
     inertial: &'a mut [u16],
     fanins: &'a mut [u16],
     values: &'w mut [u64],

@@ -14,13 +14,14 @@ pub use expectations::Expectation;
 pub use expectations::Marking;
 use expectations::needs::nets_needed;
 use expectations::search::first_unmet;
+use method::Tick;
 
 // Runs the circuit of the file as Run does, and marks the run: questions 1 to 11, then 12, then 13. The areas are left as
 // Run leaves them, whatever the verdict. Proved by hand, as the list is lent.
 pub fn mark<'a>(
     file: &'a [u8],
     directory: &'a mut [u16],
-    times: &'a mut [u16],
+    times: &'a mut [Tick],
     inertial: &'a mut [u16],
     fanins: &'a mut [u16],
     values: &'a mut [u64],

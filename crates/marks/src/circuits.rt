@@ -4,6 +4,7 @@ use crate::lending::mark_first;
 use crate::records::list_of;
 use crate::records::show_marking;
 use marking::Expectation;
+use method::Tick;
 use testbench::Case;
 use testbench::after_count;
 use testbench::before_count;
@@ -17,8 +18,9 @@ use testbench::read_all;
 use testbench::read_case;
 use testbench::rubbish_directory;
 use testbench::rubbish_fanins;
-use testbench::rubbish_frames;
+use testbench::rubbish_inertial;
 use testbench::rubbish_of;
+use testbench::rubbish_times;
 use testbench::rubbish_values;
 use testbench::show_sums;
 use testbench::times_length;
@@ -95,8 +97,8 @@ fn mark_case<'a>(
         list,
         count,
         rubbish_directory(r),
-        rubbish_frames(r),
-        rubbish_frames(r),
+        rubbish_times(r),
+        rubbish_inertial(r),
         rubbish_fanins(r),
         rubbish_values(r),
     );
@@ -111,7 +113,7 @@ fn mark_in<'a>(
     list: [Expectation; 12],
     count: usize,
     mut d: [u16; 400],
-    mut t: [u16; 2100],
+    mut t: [Tick; 2100],
     mut i: [u16; 2100],
     mut f: [u16; 16400],
     mut v: [u64; 2100],

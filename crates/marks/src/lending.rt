@@ -2,12 +2,13 @@
 ghost use Prim.Native.Nat.{_≤_};
 use marking::Expectation;
 use marking::Marking;
+use method::Tick;
 
 // Mark with the first records of a list. Proved by hand, as they are lent.
 pub(crate) fn mark_first<'a>(
     file: &'a [u8],
     directory: &'a mut [u16],
-    times: &'a mut [u16],
+    times: &'a mut [Tick],
     inertial: &'a mut [u16],
     fanins: &'a mut [u16],
     values: &'a mut [u64],

@@ -3,6 +3,7 @@ ghost use Prim.Native.Nat.{_<_, _≤_};
 use marking::Expectation;
 use marking::Marking;
 use method::Net;
+use method::Tick;
 use method::Time;
 use testbench::show_number;
 use testbench::show_refused;
@@ -24,8 +25,8 @@ fn expectation_at(bytes: &[u8], at: usize) -> Expectation
     Expectation {
         net: Net(numbers::number_at(bytes, at)),
         lane: low_byte(numbers::number_at(bytes, at + 2)),
-        from: Time(numbers::number_at(bytes, at + 3)),
-        to: Time(numbers::number_at(bytes, at + 5)),
+        from: Time(numbers::number_at(bytes, at + 3) as Tick),
+        to: Time(numbers::number_at(bytes, at + 5) as Tick),
         level: low_byte(numbers::number_at(bytes, at + 7)),
     }
 }

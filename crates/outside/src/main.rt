@@ -18,6 +18,7 @@ ghost use Prim.Native.Nat.{_<_, _≤_};
 mod nets;
 
 use circuit::Reading;
+use method::Tick;
 use nets::show_nets;
 use numbers::number_at;
 use planner::Planning;
@@ -143,7 +144,7 @@ fn show_run(file: &[u8], before: [u64; 80], after: [u64; 80], inputs: usize, net
     requires { ⌜ inputs ≤ 32 ⌝ }
 {
     let mut directory = [0u16; 320];
-    let mut times = [0u16; 2048];
+    let mut times: [Tick; 2048] = [0; 2048];
     let mut inertial = [0u16; 2048];
     let mut fanins = [0u16; 16384];
     let mut values = [0u64; 2048];

@@ -2,6 +2,7 @@
 ghost use Prim.Native.Nat.{_<_, _≤_};
 use looks::Counted;
 use method::Net;
+use method::Tick;
 use method::Time;
 use testbench::end_line;
 use testbench::show_number;
@@ -11,7 +12,7 @@ use testbench::span_of;
 // Prints a line a net; false where one cannot be written.
 pub(crate) fn show_nets(
     directory: &[u16; 320],
-    times: &[u16; 2048],
+    times: &[Tick; 2048],
     values: &[u64; 2048],
     nets: u16,
 ) -> bool {
@@ -25,7 +26,7 @@ pub(crate) fn show_nets(
     true
 }
 
-fn show_net(directory: &[u16; 320], times: &[u16; 2048], values: &[u64; 2048], net: Net) -> bool {
+fn show_net(directory: &[u16; 320], times: &[Tick; 2048], values: &[u64; 2048], net: Net) -> bool {
     let span = span_of(&directory[..], net, 2048);
     let first = span.first;
     let end = span.end;
@@ -36,7 +37,7 @@ fn show_net(directory: &[u16; 320], times: &[u16; 2048], values: &[u64; 2048], n
     end_line()
 }
 
-fn show_changes(times: &[u16; 2048], values: &[u64; 2048], first: usize, end: usize)
+fn show_changes(times: &[Tick; 2048], values: &[u64; 2048], first: usize, end: usize)
     requires { ⌜ end ≤ 2048 ⌝ }
 {
     let mut k = first;
@@ -47,7 +48,7 @@ fn show_changes(times: &[u16; 2048], values: &[u64; 2048], first: usize, end: us
 }
 
 // Prints the frame at a place if it is the net's first, or if its word is another than that of the frame before.
-fn show_change(times: &[u16; 2048], values: &[u64; 2048], first: usize, k: usize)
+fn show_change(times: &[Tick; 2048], values: &[u64; 2048], first: usize, k: usize)
     requires { ⌜ k < 2048 ⌝ }
 {
     if first < k {
@@ -64,7 +65,7 @@ fn show_frame(time: Time, word: u64) {
     streams::write_hex(word, 16);
 }
 
-fn show_count(times: &[u16; 2048], values: &[u64; 2048], first: usize, end: usize)
+fn show_count(times: &[Tick; 2048], values: &[u64; 2048], first: usize, end: usize)
     requires { ⌜ (first ≤ end) × (end ≤ 2048) ⌝ }
 {
     let t = &times[..];
@@ -73,7 +74,7 @@ fn show_count(times: &[u16; 2048], values: &[u64; 2048], first: usize, end: usiz
 }
 
 // How often the lanes change, all taken together.
-fn changes(times: &[u16], values: &[u64]) -> u64 {
+fn changes(times: &[Tick], values: &[u64]) -> u64 {
     let mut sum: u64 = 0;
     let mut lane: u8 = 0;
     while lane < 64 {
@@ -84,7 +85,7 @@ fn changes(times: &[u16], values: &[u64]) -> u64 {
 }
 
 // What Count answers. A refusal counts 65,535, more than all lanes of a net can change, so that it shows.
-fn changes_in(times: &[u16], values: &[u64], lane: u8) -> u64
+fn changes_in(times: &[Tick], values: &[u64], lane: u8) -> u64
     ensures { λ r. ⌜ r < 65536 ⌝ }
 {
     match looks::count(times, values, lane) {

@@ -7,6 +7,7 @@ ghost use Rattle.planner.specs.Questions.{areasSuit};
 ghost use Rattle.planner.specs.Plan.{onPaper, planOf};
 use circuit::Reading;
 use layout::Progress;
+use method::Tick;
 use method::Totals;
 
 const DIRECTORY_LENGTH: usize = 320;
@@ -26,7 +27,7 @@ pub enum Planning {
 pub fn plan(
     file: &[u8],
     directory: &mut [u16],
-    times: &mut [u16],
+    times: &mut [Tick],
     inertial: &mut [u16],
     fanins: &mut [u16],
 ) -> Planning
@@ -47,7 +48,7 @@ pub fn plan(
 }
 
 // Question 10, of Plan's four areas.
-pub fn areas_suit(directory: &[u16], times: &[u16], inertial: &[u16], fanins: &[u16]) -> bool
+pub fn areas_suit(directory: &[u16], times: &[Tick], inertial: &[u16], fanins: &[u16]) -> bool
     ensures { λ r. ⌜ r ≡ areasSuit (areas (now (directory .entry)) (now (times .entry)) (now (inertial .entry)) (now (fanins .entry))) ⌝ }
 {
     if directory.len() != DIRECTORY_LENGTH {

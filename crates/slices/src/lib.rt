@@ -7,9 +7,10 @@ ghost use lib.ListN.{drop, getD};
 ghost use lib.Seq.{sets};
 ghost use Rattle.lists.specs.Ladder.{between};
 ghost use Rattle.lists.specs.Front.{leading};
+use lists::Tick;
 
-// Stores the row into the area from `at` on, as far as the area reaches.
-pub fn store(area: &mut [u16], at: usize, row: &[u16])
+// Stores the row of times into the area from `at` on, as far as the area reaches.
+pub fn store(area: &mut [Tick], at: usize, row: &[Tick])
     ensures { λ _. ⌜ now (area .exit) ≡ sets (now (area .entry)) at (now (row .entry)) ⌝ }
 {
     if area.len() <= at {
@@ -35,6 +36,16 @@ pub fn entry_at(area: &[u16], place: usize) -> u16
     area[place]
 }
 
+// The same of times.
+pub fn tick_at(times: &[Tick], place: usize) -> Tick
+    ensures { λ r. ⌜ r ≡ getD (now (times .entry)) place 0 ⌝ }
+{
+    if times.len() <= place {
+        return 0;
+    }
+    times[place]
+}
+
 // A word of a list; 0 beyond its end.
 pub fn word_at(words: &[u64], place: usize) -> u64
     ensures { λ r. ⌜ r ≡ getD (now (words .entry)) place 0 ⌝ }
@@ -45,8 +56,8 @@ pub fn word_at(words: &[u64], place: usize) -> u64
     words[place]
 }
 
-// The first place from `from` on whose number is above the limit; where there is none, the row's end, or `from` beyond it.
-pub fn first_above(row: &[u16], from: usize, limit: u16) -> usize
+// The first place from `from` on whose time is above the limit; where there is none, the row's end, or `from` beyond it.
+pub fn first_above(row: &[Tick], from: usize, limit: Tick) -> usize
     ensures { λ r. ⌜ r ≡ from + leading limit (drop from (now (row .entry))) ⌝ }
 {
     let mut k = from;
@@ -69,9 +80,19 @@ pub fn is_between(least: u16, most: u16, n: u16) -> bool
     n <= most
 }
 
-// 1 if n is not above the limit, else 0: a number to add, where a jump would often be guessed wrong.
-pub fn not_above(n: u16, limit: u16) -> usize
-    ensures { λ r. ⌜ r ≡ cond (leb n limit) 1 0 ⌝ }
+// The same of times.
+pub fn ticks_between(first: Tick, last: Tick, t: Tick) -> bool
+    ensures { λ r. ⌜ r ≡ between first last t ⌝ }
 {
-    if n <= limit { 1 } else { 0 }
+    if t < first {
+        return false;
+    }
+    t <= last
+}
+
+// 1 if a time is not above the limit, else 0: a number to add, where a jump would often be guessed wrong.
+pub fn not_above(t: Tick, limit: Tick) -> usize
+    ensures { λ r. ⌜ r ≡ cond (leb t limit) 1 0 ⌝ }
+{
+    if t <= limit { 1 } else { 0 }
 }

@@ -9,6 +9,7 @@ use crate::head::times_length;
 use crate::head::values_length;
 use crate::input::limited;
 use crate::print::show_number;
+use method::Tick;
 
 pub fn rubbish_directory(rubbish: u16) -> [u16; 400]
     ensures { λ r. ⌜ 400 ≡ length r ⌝ }
@@ -18,8 +19,15 @@ pub fn rubbish_directory(rubbish: u16) -> [u16; 400]
     area
 }
 
-// Times, or inertial indices.
-pub fn rubbish_frames(rubbish: u16) -> [u16; 2100]
+pub fn rubbish_times(rubbish: u16) -> [Tick; 2100]
+    ensures { λ r. ⌜ 2100 ≡ length r ⌝ }
+{
+    let mut area: [Tick; 2100] = [0; 2100];
+    fill_ticks(&mut area, rubbish);
+    area
+}
+
+pub fn rubbish_inertial(rubbish: u16) -> [u16; 2100]
     ensures { λ r. ⌜ 2100 ≡ length r ⌝ }
 {
     let mut area = [0u16; 2100];
@@ -53,6 +61,16 @@ fn fill(area: &mut [u16], rubbish: u16) {
     }
 }
 
+fn fill_ticks(times: &mut [Tick], rubbish: u16) {
+    let mut entry = rubbish;
+    let mut k = 0;
+    while k < times.len() {
+        times[k] = entry as Tick;
+        entry = std::num::wrapping_add_u16(entry, 257);
+        k += 1;
+    }
+}
+
 fn fill_words(values: &mut [u64], rubbish: u16) {
     let mut entry = rubbish;
     let mut k = 0;
@@ -69,11 +87,15 @@ fn wide(x: u16) -> u64
     x as u64
 }
 
+fn wide_tick(t: Tick) -> u64 {
+    t as u64
+}
+
 // The arrays hold the areas in front; how long the areas are stands in the head.
 pub fn show_sums(
     head: [u8; 18],
     directory: &[u16; 400],
-    times: &[u16; 2100],
+    times: &[Tick; 2100],
     inertial: &[u16; 2100],
     fanins: &[u16; 16400],
     values: &[u64; 2100],
@@ -85,12 +107,12 @@ pub fn show_sums(
 pub fn show_plan_sums(
     head: [u8; 18],
     directory: &[u16; 400],
-    times: &[u16; 2100],
+    times: &[Tick; 2100],
     inertial: &[u16; 2100],
     fanins: &[u16; 16400],
 ) {
     show_sum(&directory[..], directory_length(head));
-    show_sum(&times[..], times_length(head));
+    show_ticks_sum(&times[..], times_length(head));
     show_sum(&inertial[..], inertial_length(head));
     show_sum(&fanins[..], fanins_length(head));
 }
@@ -102,6 +124,17 @@ fn show_sum(numbers: &[u16], count: usize) {
     let mut k = 0;
     while k < end {
         sum = with_number(sum, wide(numbers[k]));
+        k += 1;
+    }
+    show_number(sum);
+}
+
+fn show_ticks_sum(times: &[Tick], count: usize) {
+    let end = limited(count, times.len());
+    let mut sum: u64 = 0;
+    let mut k = 0;
+    while k < end {
+        sum = with_number(sum, wide_tick(times[k]));
         k += 1;
     }
     show_number(sum);

@@ -18,7 +18,8 @@ mod spans;
 
 pub use areas::rubbish_directory;
 pub use areas::rubbish_fanins;
-pub use areas::rubbish_frames;
+pub use areas::rubbish_inertial;
+pub use areas::rubbish_times;
 pub use areas::rubbish_values;
 pub use areas::show_plan_sums;
 pub use areas::show_sums;

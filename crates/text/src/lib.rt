@@ -39,7 +39,7 @@ fn put_all(output: &mut [u8], at: usize, text: &[u8]) -> usize
 }
 
 // The digit of n at a power of ten, where n reaches it.
-fn put_digit(output: &mut [u8], at: usize, power: u16, n: u16) -> usize
+fn put_digit(output: &mut [u8], at: usize, power: u32, n: u32) -> usize
     requires { ⌜ 1 ≤ power ⌝ }
     ensures { λ r. ⌜ Wrote (now (output .entry)) at (digitAt power n) (now (output .exit)) r ⌝ }
 {
@@ -50,7 +50,7 @@ fn put_digit(output: &mut [u8], at: usize, power: u16, n: u16) -> usize
 }
 
 // A number in decimal.
-pub fn put_number(output: &mut [u8], at: usize, n: u16) -> usize
+pub fn put_number(output: &mut [u8], at: usize, n: u32) -> usize
     ensures { λ r. ⌜ Wrote (now (output .entry)) at (decimal n) (now (output .exit)) r ⌝ }
 {
     let a = put_digit(output, at, 10000, n);
@@ -65,7 +65,7 @@ pub fn put_frame(output: &mut [u8], at: usize, time: Time, level: bool) -> usize
     ensures { λ r. ⌜ Wrote (now (output .entry)) at (frameText (time .0) level) (now (output .exit)) r ⌝ }
 {
     let a = put(output, at, BLANK);
-    let b = put_number(output, a, time.0);
+    let b = put_number(output, a, time.0 as u32);
     let c = put(output, b, EQUALS);
     put(output, c, ZERO + level as u8)
 }
@@ -75,7 +75,7 @@ pub fn put_refused(output: &mut [u8], number: u8) -> usize
     ensures { λ r. ⌜ Wrote (now (output .entry)) 0 (refusal number) (now (output .exit)) r ⌝ }
 {
     let a = put_all(output, 0, b"refused ");
-    let b = put_number(output, a, number as u16);
+    let b = put_number(output, a, number as u32);
     put_newline(output, b)
 }
 

@@ -13,6 +13,7 @@ use crate::input::take_words;
 use circuit::Reading;
 use method::Frame;
 use method::Net;
+use method::Tick;
 use planner::Planning;
 use text::put_frame;
 use text::put_newline;
@@ -20,7 +21,7 @@ use text::put_number;
 use text::put_refused;
 
 // So many frames of a net, in lane 0, from its parts of the times and the values.
-fn put_frames(output: &mut [u8], at: usize, times: &[u16], values: &[u64], frames: u16) -> usize
+fn put_frames(output: &mut [u8], at: usize, times: &[Tick], values: &[u64], frames: u16) -> usize
     ensures { λ r. ⌜ Wrote (now (output .entry)) at (partFrames (now (times .entry)) (now (values .entry)) frames) (now (output .exit)) r ⌝ }
 {
     let mut end = at;
@@ -38,7 +39,7 @@ fn put_net(
     output: &mut [u8],
     at: usize,
     directory: &[u16],
-    times: &[u16],
+    times: &[Tick],
     values: &[u64],
     net: Net,
 ) -> usize
@@ -47,13 +48,19 @@ fn put_net(
     let frames = slices::entry_at(directory, 2 * (net.0 as usize) + 1);
     let t = looks::times_of(directory, times, net);
     let v = looks::values_of(directory, values, net);
-    let a = put_number(output, at, net.0);
+    let a = put_number(output, at, net.0 as u32);
     let b = put_frames(output, a, t, v, frames);
     put_newline(output, b)
 }
 
 // The lines of the first nets, from the buffer's start on.
-fn put_nets(output: &mut [u8], directory: &[u16], times: &[u16], values: &[u64], nets: u16) -> usize
+fn put_nets(
+    output: &mut [u8],
+    directory: &[u16],
+    times: &[Tick],
+    values: &[u64],
+    nets: u16,
+) -> usize
     ensures { λ r. ⌜ Wrote (now (output .entry)) 0 (areaLines (now (directory .entry)) (now (times .entry)) (now (values .entry)) nets) (now (output .exit)) r ⌝ }
 {
     let mut end = 0;
@@ -69,7 +76,7 @@ fn put_nets(output: &mut [u8], directory: &[u16], times: &[u16], values: &[u64],
 fn put_run(
     file: &[u8],
     directory: &mut [u16],
-    times: &mut [u16],
+    times: &mut [Tick],
     inertial: &mut [u16],
     fanins: &mut [u16],
     values: &mut [u64],
@@ -117,7 +124,7 @@ fn put_with_words(
     ensures { λ r. ⌜ Wrote (now (output .entry)) 0 (answerText (now (file .entry)) (now (part .entry))) (now (output .exit)) r ⌝ }
 {
     let mut directory = [0u16; 320];
-    let mut times = [0u16; 2048];
+    let mut times: [Tick; 2048] = [0; 2048];
     let mut inertial = [0u16; 2048];
     let mut fanins = [0u16; 16384];
     let mut values = [0u64; 2048];

@@ -8,14 +8,14 @@ use Rattle.layout.proofs.clear_all.Tie as tie
 clear-requires : tie.Need-clear-requires
 clear-requires c κs = search needs
 
+clear-ticks-requires : tie.Need-clear-ticks-requires
+clear-ticks-requires c κs = search needs
+
 clear-requires-2 : tie.Need-clear-requires-2
 clear-requires-2 c κs = search needs
 
 clear-requires-3 : tie.Need-clear-requires-3
 clear-requires-3 c κs = search needs
-
-clear-requires-4 : tie.Need-clear-requires-4
-clear-requires-4 c κs = search needs
 
 same-length : tie.Need-same-length
 same-length c = search needs
@@ -37,9 +37,9 @@ clear-all-spec =
     tie.close
     (tie.spec
     clear-requires
+    clear-ticks-requires
     clear-requires-2
     clear-requires-3
-    clear-requires-4
     same-length
     same-length-2
     same-length-3

@@ -15,16 +15,16 @@ word-at-requires c κs = search needs
 bit-of-requires : tie.Need-bit-of-requires
 bit-of-requires c κs = search needs
 
-entry-at-requires : tie.Need-entry-at-requires
-entry-at-requires c κs = search needs
+tick-at-requires : tie.Need-tick-at-requires
+tick-at-requires c κs = search needs
 
 until-requires : tie.Need-until-requires
 until-requires c κs = search needs
 
 returns : tie.Need-returns
-returns c = let s = c .before .before .before .before .before .before .before .args in sight-is (now (s .times)) _ (now (s .values)) _ _ (c .before .before .before .word-at .ensures) (c .before .before .bit-of .ensures) (c .before .entry-at .ensures) (c .until .ensures)
+returns c = let s = c .before .before .before .before .before .before .before .args in sight-is (now (s .times)) _ (now (s .values)) _ _ (c .before .before .before .word-at .ensures) (c .before .before .bit-of .ensures) (c .before .tick-at .ensures) (c .until .ensures)
 
 pub sight-at-spec : {M : Type 1} → statement M
 sight-at-spec =
     tie.close
-    (tie.spec cast-k word-at-requires bit-of-requires entry-at-requires until-requires returns)
+    (tie.spec cast-k word-at-requires bit-of-requires tick-at-requires until-requires returns)

@@ -23,6 +23,9 @@ times-of-requires c κs = search needs
 values-of-requires : tie.Need-values-of-requires
 values-of-requires c κs = search needs
 
+cast-put-number : tie.Need-cast-put-number
+cast-put-number c = search needs
+
 put-number-requires : tie.Need-put-number-requires
 put-number-requires c κs = search needs
 
@@ -36,7 +39,7 @@ same-length : tie.Need-same-length
 same-length c = search needs
 
 returns : tie.Need-returns
-returns c = line-put _ _ _ _ (c .before .before .before .before .before .before .before .before .before .before .before .before .before .before .entry-at .ensures) (c .before .before .before .before .before .before .before .before .before .before .before .before .before .times-of .ensures) (c .before .before .before .before .before .before .before .before .before .before .before .before .values-of .ensures) (c .before .before .before .before .before .before .before .before .before .before .put-number .ensures) (c .before .before .before .before .before .before .put-frames .ensures) (c .before .before .put-newline .ensures)
+returns c = line-put _ _ _ _ (c .before .before .before .before .before .before .before .before .before .before .before .before .before .before .before .entry-at .ensures) (c .before .before .before .before .before .before .before .before .before .before .before .before .before .before .times-of .ensures) (c .before .before .before .before .before .before .before .before .before .before .before .before .before .values-of .ensures) (c .before .before .before .before .before .before .before .before .before .before .put-number .ensures) (c .before .before .before .before .before .before .put-frames .ensures) (c .before .before .put-newline .ensures)
 
 pub put-net-spec : {M : Type 1} → statement M
 put-net-spec =
@@ -48,6 +51,7 @@ put-net-spec =
     entry-at-requires
     times-of-requires
     values-of-requires
+    cast-put-number
     put-number-requires
     put-frames-requires
     put-newline-requires

@@ -1,9 +1,9 @@
--- `numbers_of` meets its contract. The place rises to 80.
+-- `ticks_of` meets its contract. The place rises to 80.
 -- Assumes nothing.
 use Prim.Native.Nat.{_-_}
 use borrow.Author.Needs.{needs}
-use Rattle.cases.proofs.parts.numbers_of.Statement.{statement}
-use Rattle.cases.proofs.parts.numbers_of.Tie as tie
+use Rattle.cases.proofs.parts.ticks_of.Statement.{statement}
+use Rattle.cases.proofs.parts.ticks_of.Tie as tie
 
 abbrev Inv-loop : tie.InvT-loop
 Inv-loop bytes numbers₀ k₀ numbers k = Unit
@@ -38,8 +38,8 @@ loop-again c = search needs
 returns : tie.Need-returns Inv-loop μ-loop
 returns c = search needs
 
-pub numbers-of-spec : {M : Type 1} → statement M
-numbers-of-spec =
+pub ticks-of-spec : {M : Type 1} → statement M
+ticks-of-spec =
     tie.close
     (tie.spec
     Inv-loop
