@@ -1,4 +1,4 @@
-// Lent areas set to zeros: a function for each width of their entries.
+// Lent areas set to zeros: a function for each type of their entries.
 ghost use mathlib.Core.Path.{_≡_};
 ghost use Rattle.lists.specs.Areas.{cleared};
 use lists::Tick;

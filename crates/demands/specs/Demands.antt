@@ -79,8 +79,8 @@ pub record Demand2Method : Type 0 where
   pub run-read : (task : Task) (w : WordLists) (left : Areas) → Ran task w left → circuit.readOf (task .file) ≡ accepted (circuit.inputsAndGatesOf (task .file))
   -- what they leave in the areas, each area at its own length
   pub plan : (task : Task) (entry left : PlanAreas) (totals : Totals)
-      → outcome (accepted totals) left ≡ planOf task entry → HoldsPlan (circuitIn task) left
-  pub run-plan : (task : Task) (w : WordLists) (left : Areas) → Ran task w left → HoldsPlan (circuitIn task) (left .plan)
+      → outcome (accepted totals) left ≡ planOf task entry → HoldsPlan task left
+  pub run-plan : (task : Task) (w : WordLists) (left : Areas) → Ran task w left → HoldsPlan task (left .plan)
   pub run-values : (task : Task) (w : WordLists) (left : Areas) → Ran task w left
       → left .values ≡ padded (length (left .values)) (allPackedIn task w)
   -- what Count answers is the number of changes of the lane's own values, and of the machine's level from 1 to 65,535
@@ -100,10 +100,8 @@ pub record Demand2Lengths : Type 0 where
 -- and of Count the same refusal, or two acceptances
 pub record Demand2Patterns : Type 0 where
   pub run : (task : Task) (w w′ : WordLists) (a : Areas) → lengthsOf w ≡ lengthsOf w′
-      → (runOf task w a .answer ≡ runOf task w′ a .answer)
-      × (runOf task w a .left .plan ≡ runOf task w′ a .left .plan)
-  pub mark : (task : Task) (w w′ : WordLists) (a : Areas) (list : List Expectation)
-      → lengthsOf w ≡ lengthsOf w′
+      → (runOf task w a .answer ≡ runOf task w′ a .answer) × (runOf task w a .left .plan ≡ runOf task w′ a .left .plan)
+  pub mark : (task : Task) (w w′ : WordLists) (a : Areas) (list : List Expectation) → lengthsOf w ≡ lengthsOf w′
       → SameRefusal (markOf task w a list .answer) (markOf task w′ a list .answer)
       × (markOf task w a list .left .plan ≡ markOf task w′ a list .left .plan)
   pub level : (times values values′ : List ℕ) (L t : ℕ) → length values ≡ length values′ → SameRefusal (levelOf times values L t) (levelOf times values′ L t)
@@ -115,8 +113,7 @@ pub record Demand2Marking : Type 0 where
       → (v ≡ allMet → Every (Met left) list) × (Every (Met left) list → v ≡ allMet)
   -- the levels are the machine's
   pub passes-machine : (task : Task) (w : WordLists) (list : List Expectation) (v : Verdict) (left : Areas) → Marked task w list v left
-      → (v ≡ allMet → Every (MetByMachine task w) list)
-      × (Every (MetByMachine task w) list → v ≡ allMet)
+      → (v ≡ allMet → Every (MetByMachine task w) list) × (Every (MetByMachine task w) list → v ≡ allMet)
   -- a marking that does not pass names the first expectation that is not met, and the frame that breaks it
   pub fails : (task : Task) (w : WordLists) (list : List Expectation) (i k : ℕ) (left : Areas)
       → Marked task w list (place i k) left → Place left list i k

@@ -3,12 +3,10 @@ use mathlib.Core.Path.{_≡_}
 use mathlib.Core.List.{List}
 use Rattle.lists.specs.Ladder.{accepted}
 use Rattle.lists.specs.Outcome.{outcome}
-use Rattle.method.specs.Circuit.{Circuit}
-use Rattle.method.specs.Frames.{frames}
 use Rattle.method.specs.Areas as planner
 use Rattle.method.specs.Layout.{laid}
 use Rattle.method.specs.WordLists.{WordLists}
-use Rattle.circuit.specs.Task.{Task}
+use Rattle.circuit.specs.Task.{Task, framesIn}
 use Rattle.engine.specs.Areas.{Areas}
 use Rattle.engine.specs.After as engine
 use Rattle.expectations.specs.declared.Expectation.{Expectation}
@@ -26,7 +24,7 @@ pub data Ran (task : Task) (w : WordLists) (left : Areas) : Type 0 where
   by-run : engine.LeftByRun task w left → Ran task w left
   by-mark : (list : List Expectation) (v : Verdict) → Marked task w list v left → Ran task w left
 
--- the four plan areas hold the frames of a circuit: a pair a net, the times and the inertial indices in net order, the
+-- the four plan areas hold the frames of a task: a pair a net, the times and the inertial indices in net order, the
 -- fan-in indices by gate, by frame, by fan-in; the rest of each area, whatever its length, is 0
-abbrev pub HoldsPlan : Circuit → planner.Areas → Type 0
-HoldsPlan c left = left ≡ laid (frames c) left
+abbrev pub HoldsPlan : Task → planner.Areas → Type 0
+HoldsPlan task left = left ≡ laid (framesIn task) left

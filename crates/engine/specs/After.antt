@@ -80,8 +80,7 @@ pub record After (task : Task) (w : WordLists) (a : Areas) : Type 0 where
   pub values-are : (n : ℕ) → n < netsIn task → valuesOf a n ≡ packedIn task w n
   -- Level answers on these parts, and what it answers is the machine's level, run for the lane's pattern pair by itself; at
   -- every time t, so at those from 0 to 65,535
-  pub level-is-machine : (n L t : ℕ) → n < netsIn task → L < lanes
-      → levelIn a n L t ≡ accepted (machineIn task w L n t)
+  pub level-is-machine : (n L t : ℕ) → n < netsIn task → L < lanes → levelIn a n L t ≡ accepted (machineIn task w L n t)
   -- and holds from the begin of the frame that Level names to its end
   pub sight-holds : (n L t : ℕ) → n < netsIn task → L < lanes → SightHolds task w a n L t
   -- what is seen of a frame by its number is what Level answers at the frame's own time
@@ -90,15 +89,15 @@ pub record After (task : Task) (w : WordLists) (a : Areas) : Type 0 where
   -- Count answers the number of changes of the lane's own values, which is the number of times from 1 to 65,535 at which
   -- the machine's level differs from that one unit earlier
   pub count-is-own : (n L : ℕ) → n < netsIn task → L < lanes → countIn a n L ≡ accepted (changes (laneValues task w L n))
-  pub count-is-machine : (n L : ℕ) → n < netsIn task → L < lanes
-      → countIn a n L ≡ accepted (changedTimes (machineIn task w L n) lastTime)
+  pub count-is-machine : (n L : ℕ) → n < netsIn task → L < lanes → countIn a n L ≡ accepted (changedTimes (machineIn task w L n) lastTime)
   -- where Level's answers at t + 1 and at t differ, t + 1 is among the net's entries in the times area
   pub changes-at-times : (n L t : ℕ) → n < netsIn task → L < lanes
       → levelIn a n L (suc t) ≢ levelIn a n L t → among (suc t) (timesOf a n) ≡ true
   -- and these entries are the net's potential times
   pub times-are-potential : (n t : ℕ) → n < netsIn task → among t (timesOf a n) ≡ potentialIn task n t
 
--- two accepted Runs of the circuit of this task whose words agree in lane L, whatever the other lanes hold and whatever stood in the areas
+-- two accepted Runs of this task's circuit whose words agree in lane L, whatever the other lanes hold and whatever stood in
+-- the areas
 pub record Alike (task : Task) (L : ℕ) (a a′ : Areas) : Type 0 where
   pub same-sight : (n t : ℕ) → n < netsIn task → sightIn a n L t ≡ sightIn a′ n L t
   pub same-level : (n t : ℕ) → n < netsIn task → levelIn a n L t ≡ levelIn a′ n L t
