@@ -51,7 +51,7 @@ module _ (task : Task) (l : Lengths) (a : Areas) (suit : Bool) where
   ladder-run y = parted ∙ ap (first (firstNo (firstQuestions task l a))) (ask-yes suit 12 (lastQuestion task) y) ∙ sym (joined task l a)
 
   pub ladder-none : firstNo (firstQuestions task l a) ≡ 0 → suit ≡ true → firstNo (lastQuestion task) ≡ 0 → firstNo (askedWith task l a suit) ≡ 0
-  ladder-none z y l = parted ∙ rw z (ask-yes suit 12 (lastQuestion task) y ∙ l)
+  ladder-none z y last = parted ∙ rw z (ask-yes suit 12 (lastQuestion task) y ∙ last)
 
   -- no "no": 12 is answered yes, and so are Run's questions
   pub ladder-yes : firstNo (askedWith task l a suit) ≡ 0 → (suit ≡ true) × (firstNo (questions task l a) ≡ 0)

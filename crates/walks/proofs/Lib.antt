@@ -4,3 +4,4 @@ pub mod Walking
 pub mod Again
 pub mod Shown
 pub mod Lent
+pub mod Ticks

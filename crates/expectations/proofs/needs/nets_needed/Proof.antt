@@ -8,7 +8,7 @@
 use mathlib.Core.Path.{_≡_, refl, sym, ap, _∙_}
 use mathlib.Core.Bool.{not}
 use mathlib.Core.WellFounded.{WellFounded, InvImage·wf}
-use Prim.Native.Nat.{ℕ, _<_, _≤_, _+_, _-_, _*_, _^_, max}
+use Prim.Native.Nat.{ℕ, _<_, _≤_, _+_, _-_, _^_, max}
 use Prim.Native.Nat.{zero-le}
 use native.Mathlib.Omega.{arith}
 use mathlib.Core.List.{List, [], _∷_}
@@ -54,6 +54,7 @@ use denote.Exit.{yes}
 use Rattle.expectations.specs.declared.Expectation.{Expectation}
 use Rattle.expectations.specs.Steps.{netsFor, netsNeeded}
 use Rattle.expectations.proofs.Turns.{nought, before-end, neededFrom, needed-start, needed-end, needed-on}
+use Rattle.expectations.proofs.Places.{size, place-fits}
 use Rattle.walks.proofs.Walking.{hole, held, tests}
 use Rattle.expectations.proofs.Expectation as T
 use Rattle.expectations.proofs.Expectation.Laws as T′
@@ -150,9 +151,6 @@ module _ {M : Type 1} (𝓤 : URA M) (H : Heap 𝓤) (A : Atoms 𝓤) (W : Given
   nearer : (i : ℕ) → i < n → n - (i + 1) < n - i
   nearer i l = omega (arith, l)
 
-  place-fits : Room T.the-row n → (i : ℕ) → i < n → i * 10 < 2 ^ 64
-  place-fits gn i l = omega (arith, gn .1)
-
   module _ (𝓣 : Tables 𝓤 H) (known : Triple 𝓤 (𝓣 .C #at-least) (One 𝓤 H A mem run)) (gn : Room T.the-row n) where
     module _ (l₀ l₁ l₂ l₃ l₄ l₅ l₆ l₇ l₈ : ℕ) where
       abbrev C : Calls 𝓤 H
@@ -203,7 +201,7 @@ module _ {M : Type 1} (𝓤 : URA M) (H : Heap 𝓤) (A : Atoms 𝓤) (W : Given
           jumps ! $ exec ! C Λ En piece.t-4 (atRet En Post) $ forget ! 6 refl $ forget ! 8 refl $ forget ! 12 refl $ leaves (so-far x) (small x) (at-end x t))
           (λ t. assigns ! (bin ! (load ! (from ! (stop !)) (look ! 12 refl)) (lit ! tt) (record { fits = place-fits gn (x .0) (inside x t) })) (from ! (stop !)) (store ! 8 refl (tt, record { fits = place-fits gn (x .0) (inside x t) })) $
           assigns ! (bin ! (load ! (from ! (fld ! refl (stop !))) (look-in ! 16 (sub ! 0 refl (whole !)))) (load ! (from ! (stop !)) (look ! 8 refl)) tt) (from ! (stop !)) (init ! 4 refl (tt, tt)) $
-          rewrite ! 4 (λ (p : ℕ). ‵ (fat fullShare tyPtr l₇ 0 (vptr b p))) (sym (place-is 10 o (x .0))) refl $ move ! (1 ∷ 0 ∷ []) $
+          rewrite ! 4 (λ (p : ℕ). ‵ (fat fullShare tyPtr l₇ 0 (vptr b p))) (sym (place-is size o (x .0))) refl $ move ! (1 ∷ 0 ∷ []) $
           looks-slice ! tt T.the-row (Is T.the-row) (shows 𝓤 H A T.the-row) (LL.vals T.the-type T′.the-laws) (LL.tells T.the-type T′.the-laws) (LL.copy T.the-type T′.the-copy 𝓤 H A W) ys b o (λ q′.
           elem-out ! T.the-row (Is T.the-row) (shows 𝓤 H A T.the-row) (LL.vals T.the-type T′.the-laws) (LL.tells T.the-type T′.the-laws) q′ ys (x .0) nought b o (inside x t) (λ is.
           -- [list[i]; what it owns; the others; what shuts; the fractured borrow; _8; …; _7; …]
