@@ -14,6 +14,7 @@ use testbench::show_number;
 use testbench::show_refused;
 use testbench::show_semicolon;
 use testbench::span_of;
+use testbench::tick_of;
 use testbench::with_number;
 
 // The net that is looked at after a run and the time at which its levels are asked for, and whether the input had them.
@@ -29,7 +30,7 @@ pub(crate) fn read_look() -> Look {
     Look {
         whole: whole,
         net: Net(numbers::number_at(&bytes, 0)),
-        time: Time(numbers::number_at(&bytes, 2) as Tick),
+        time: Time(tick_of(numbers::number_at(&bytes, 2))),
     }
 }
 

@@ -10,6 +10,7 @@ use testbench::limited;
 use testbench::read_all;
 use testbench::read_words;
 use testbench::show_semicolon;
+use testbench::tick_of;
 use testbench::wide;
 
 // False where the case is cut short or too large, and nothing is printed; and where its line cannot be written.
@@ -54,7 +55,7 @@ fn ticks_of(bytes: &[u8]) -> [Tick; 80] {
     let mut row: [Tick; 80] = [0; 80];
     let mut k = 0;
     while k < 80 {
-        row[k] = numbers::number_at(bytes, 2 * k) as Tick;
+        row[k] = tick_of(numbers::number_at(bytes, 2 * k));
         k += 1;
     }
     row
@@ -80,5 +81,5 @@ fn show_line(head: [u8; 5], times: [Tick; 80], values: [u64; 80]) -> bool {
 }
 
 fn time_of(head: [u8; 5]) -> Time {
-    Time(numbers::number_at(&head, 3) as Tick)
+    Time(tick_of(numbers::number_at(&head, 3)))
 }

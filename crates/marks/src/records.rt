@@ -3,10 +3,10 @@ ghost use Prim.Native.Nat.{_<_, _≤_};
 use marking::Expectation;
 use marking::Marking;
 use method::Net;
-use method::Tick;
 use method::Time;
 use testbench::show_number;
 use testbench::show_refused;
+use testbench::tick_of;
 
 // The records in the bytes; of those behind the end every number is 0.
 pub(crate) fn list_of(bytes: &[u8]) -> [Expectation; 12] {
@@ -25,8 +25,8 @@ fn expectation_at(bytes: &[u8], at: usize) -> Expectation
     Expectation {
         net: Net(numbers::number_at(bytes, at)),
         lane: low_byte(numbers::number_at(bytes, at + 2)),
-        from: Time(numbers::number_at(bytes, at + 3) as Tick),
-        to: Time(numbers::number_at(bytes, at + 5) as Tick),
+        from: Time(tick_of(numbers::number_at(bytes, at + 3))),
+        to: Time(tick_of(numbers::number_at(bytes, at + 5))),
         level: low_byte(numbers::number_at(bytes, at + 7)),
     }
 }

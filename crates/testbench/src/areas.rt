@@ -65,7 +65,7 @@ fn fill_ticks(times: &mut [Tick], rubbish: u16) {
     let mut entry = rubbish;
     let mut k = 0;
     while k < times.len() {
-        times[k] = entry as Tick;
+        times[k] = tick_of(entry);
         entry = std::num::wrapping_add_u16(entry, 257);
         k += 1;
     }
@@ -89,6 +89,11 @@ fn wide(x: u16) -> u64
 
 fn wide_tick(t: Tick) -> u64 {
     t as u64
+}
+
+// A time from two bytes of the input.
+pub fn tick_of(number: u16) -> Tick {
+    number as Tick
 }
 
 // The arrays hold the areas in front; how long the areas are stands in the head.

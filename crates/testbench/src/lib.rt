@@ -23,6 +23,7 @@ pub use areas::rubbish_times;
 pub use areas::rubbish_values;
 pub use areas::show_plan_sums;
 pub use areas::show_sums;
+pub use areas::tick_of;
 pub use areas::with_number;
 pub use circuits::Case;
 pub use circuits::read_case;

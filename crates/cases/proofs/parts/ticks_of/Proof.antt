@@ -6,10 +6,10 @@ use Rattle.cases.proofs.parts.ticks_of.Statement.{statement}
 use Rattle.cases.proofs.parts.ticks_of.Tie as tie
 
 abbrev Inv-loop : tie.InvT-loop
-Inv-loop bytes numbers₀ k₀ numbers k = Unit
+Inv-loop bytes row₀ k₀ row k = Unit
 
 abbrev μ-loop : tie.MeasureT-loop
-μ-loop bytes numbers₀ k₀ numbers k = 80 - k
+μ-loop bytes row₀ k₀ row k = 80 - k
 
 loop-holds : tie.Need-loop-holds Inv-loop μ-loop
 loop-holds c = search needs
@@ -19,6 +19,9 @@ mul-number-at c = search needs
 
 number-at-requires : tie.Need-number-at-requires Inv-loop μ-loop
 number-at-requires c κs = search needs
+
+tick-of-requires : tie.Need-tick-of-requires Inv-loop μ-loop
+tick-of-requires c κs = search needs
 
 mul-row : tie.Need-mul-row Inv-loop μ-loop
 mul-row c = search needs
@@ -47,6 +50,7 @@ ticks-of-spec =
     loop-holds
     mul-number-at
     number-at-requires
+    tick-of-requires
     mul-row
     array-write-row
     add-k

@@ -17,6 +17,9 @@ abbrev μ-loop : tie.MeasureT-loop
 loop-holds : tie.Need-loop-holds Inv-loop μ-loop
 loop-holds c = search needs
 
+tick-of-requires : tie.Need-tick-of-requires Inv-loop μ-loop
+tick-of-requires c κs = search needs
+
 mul-times : tie.Need-mul-times Inv-loop μ-loop
 mul-times c = search needs
 
@@ -48,6 +51,7 @@ fill-ticks-spec =
     Inv-loop
     μ-loop
     loop-holds
+    tick-of-requires
     mul-times
     slice-write-times
     wrapping-add-u16-requires
