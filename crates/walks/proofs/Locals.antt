@@ -40,6 +40,10 @@ pub data Cell : Type 0 where
   empty : Cell
   has : Val → Cell
 
+-- the type and the place of each local, as `Env` of the logic's `Prog/Wp`
+abbrev pub Places : Type 0
+Places = List (Ty × ℕ)
+
 -- ---- the cells of a list of locals
 abbrev pub first-of : List Cell → Cell
 first-of [] = empty
@@ -61,13 +65,13 @@ having (v ∷ vs) = has v ∷ having vs
 abbrev no-local : Ty × ℕ
 no-local = (tyEnum [] ttnil, zero)
 
-abbrev pub type-of : List (Ty × ℕ) → ℕ → Ty
+abbrev pub type-of : Places → ℕ → Ty
 type-of E i = getD E i no-local .0
 
-abbrev pub place-of : List (Ty × ℕ) → ℕ → ℕ
+abbrev pub place-of : Places → ℕ → ℕ
 place-of E i = getD E i no-local .1
 
-abbrev pub cell-of : List (Ty × ℕ) → List Cell → ℕ → Cell
+abbrev pub cell-of : Places → List Cell → ℕ → Cell
 cell-of [] cs i = away
 cell-of (e ∷ E) cs zero = first-of cs
 cell-of (e ∷ E) cs (suc i) = cell-of E (later-of cs) i
@@ -82,7 +86,7 @@ if-there away b = false
 if-there empty b = b
 if-there (has v) b = b
 
-abbrev pub all-there : List (Ty × ℕ) → List Cell → Bool
+abbrev pub all-there : Places → List Cell → Bool
 all-there [] cs = true
 all-there (e ∷ E) cs = if-there (first-of cs) (all-there E (later-of cs))
 
@@ -96,7 +100,7 @@ not-away e = subst (λ (c : Cell). T (not (there c))) e tt
 
 -- the local i has a slice, and j and k are to get its pointer at (b, o) and the slice: what i has before and after j got
 -- it, what j has then, i's type, that j and k have room, and that what they get is of their types
-abbrev lendable : List (Ty × ℕ) → List Cell → (i j k b o n : ℕ) → Cell × Cell × Cell × Ty × Bool × Bool × Bool × Bool
+abbrev lendable : Places → List Cell → (i j k b o n : ℕ) → Cell × Cell × Cell × Ty × Bool × Bool × Bool × Bool
 lendable E cs i j k b o n = (
   cell-of E cs i,
   cell-of E (set j (has (vptr b o)) cs) i,
@@ -122,7 +126,7 @@ if-has away b = false
 if-has empty b = false
 if-has (has v) b = b
 
-abbrev read : List (Ty × ℕ) → List Cell → Operand → Cell
+abbrev read : Places → List Cell → Operand → Cell
 read E cs (copy (place i [])) = cell-of E cs i
 read E cs (copy (place i (s ∷ st))) = away
 read E cs (int w n) = away
@@ -134,11 +138,11 @@ read E cs opdFalse = away
 read E cs opdUnit = away
 read E cs (ptrConst n) = away
 
-abbrev pub all-read : List (Ty × ℕ) → List Cell → List Operand → Bool
+abbrev pub all-read : Places → List Cell → List Operand → Bool
 all-read E cs [] = true
 all-read E cs (x ∷ xs) = if-has (read E cs x) (all-read E cs xs)
 
-abbrev pub values : List (Ty × ℕ) → List Cell → List Operand → List Val
+abbrev pub values : Places → List Cell → List Operand → List Val
 values E cs [] = []
 values E cs (x ∷ xs) = value (read E cs x) ∷ values E cs xs
 
@@ -153,11 +157,15 @@ cell τ l away = ftrue
 cell τ l empty = froom τ l zero
 cell τ l (has v) = fat fullShare τ l zero v
 
-pub Locals : List (Ty × ℕ) → List Cell → Fml
+-- of the local i, with c for its cell
+abbrev pub its : Places → ℕ → Cell → Fml
+its E i c = cell (type-of E i) (place-of E i) c
+
+pub Locals : Places → List Cell → Fml
 Locals [] cs = ftrue
 Locals (e ∷ E) cs = fsep (fsep (cell (e .0) (e .1) (first-of cs)) (fdies (e .0) (e .1))) (Locals E (later-of cs))
 
-same-locals : (E : List (Ty × ℕ)) (cs : List Cell) (i : ℕ) → Locals E (set i (cell-of E cs i) cs) ≡ Locals E cs
+same-locals : (E : Places) (cs : List Cell) (i : ℕ) → Locals E (set i (cell-of E cs i) cs) ≡ Locals E cs
 unfolding Locals
 same-locals [] cs i = refl
 same-locals (e ∷ E) cs zero = refl
@@ -165,20 +173,22 @@ same-locals (e ∷ E) cs (suc i) = ap (λ (F : Fml). fsep (fsep (cell (e .0) (e 
 
 module _ {M : Type 1} (𝓤 : URA M) (H : Heap 𝓤) (A : Atoms 𝓤) (W : Given 𝓤 H A) where
   -- the cell of the local i is taken out, and put back with anything in it
-  takes : (E : List (Ty × ℕ)) (cs : List Cell) (i : ℕ) → ent 𝓤 (sem 𝓤 H A (Locals E cs)) (sep 𝓤 (sem 𝓤 H A (cell (type-of E i) (place-of E i) (cell-of E cs i))) (sem 𝓤 H A (Locals E (set i away cs))))
+  takes : (E : Places) (cs : List Cell) (i : ℕ) → ent 𝓤 (sem 𝓤 H A (Locals E cs)) (sep 𝓤 (sem 𝓤 H A (its E i (cell-of E cs i))) (sem 𝓤 H A (Locals E (set i away cs))))
   unfolding Locals
   takes [] cs i = emp∗ 𝓤 (emp 𝓤)
-  takes (e ∷ E) cs zero = qed W (‵ (fsep (fsep (cell (e .0) (e .1) (first-of cs)) (fdies (e .0) (e .1))) (Locals E (later-of cs))) ∷ []) ∵ fsplit ! $ fsplit ! $ frame ! $ nothing ! $ fjoin ! $ fjoin ! $ done !
+  takes (e ∷ E) cs zero = qed W (‵ (fsep (fsep (cell (e .0) (e .1) (first-of cs)) (fdies (e .0) (e .1))) (Locals E (later-of cs))) ∷ []) ∵ fsplit ! $ fsplit ! $ frame ! $ nothing ! $ fjoin ! $
+      fjoin ! $ done !
   takes (e ∷ E) cs (suc i) =
       qed W (‵ (fsep (fsep (cell (e .0) (e .1) (first-of cs)) (fdies (e .0) (e .1))) (Locals E (later-of cs))) ∷ []) ∵ fsplit ! $ move ! (1 ∷ []) $
-      use1 W (‵ (cell (type-of E i) (place-of E i) (cell-of E (later-of cs) i)) ⊛ ‵ (Locals E (set i away (later-of cs)))) (takes E (later-of cs) i) $ split ! $ frame ! $ move ! (1 ∷ 0 ∷ []) $ fjoin ! $ done !
+      use1 W (‵ (its E i (cell-of E (later-of cs) i)) ⊛ ‵ (Locals E (set i away (later-of cs)))) (takes E (later-of cs) i) $ split ! $ frame ! $ move ! (1 ∷ 0 ∷ []) $ fjoin ! $ done !
 
-  puts : (E : List (Ty × ℕ)) (cs : List Cell) (i : ℕ) (c : Cell) → ent 𝓤 (sep 𝓤 (sem 𝓤 H A (cell (type-of E i) (place-of E i) c)) (sem 𝓤 H A (Locals E (set i away cs)))) (sem 𝓤 H A (Locals E (set i c cs)))
+  puts : (E : Places) (cs : List Cell) (i : ℕ) (c : Cell) → ent 𝓤 (sep 𝓤 (sem 𝓤 H A (its E i c)) (sem 𝓤 H A (Locals E (set i away cs)))) (sem 𝓤 H A (Locals E (set i c cs)))
   unfolding Locals
   puts [] cs i c = snd∗ 𝓤 (sem 𝓤 H A (cell (tyEnum [] ttnil) zero c)) (emp 𝓤)
-  puts (e ∷ E) cs zero c = qed W (‵ (cell (e .0) (e .1) c) ∷ ‵ (fsep (fsep ftrue (fdies (e .0) (e .1))) (Locals E (later-of cs))) ∷ []) ∵ move ! (1 ∷ []) $ fsplit ! $ fsplit ! $ move ! (3 ∷ 1 ∷ []) $ fjoin ! $ move ! (0 ∷ 2 ∷ []) $ fjoin ! $ keep ! (0 ∷ []) $ done !
+  puts (e ∷ E) cs zero c = qed W (‵ (cell (e .0) (e .1) c) ∷ ‵ (fsep (fsep ftrue (fdies (e .0) (e .1))) (Locals E (later-of cs))) ∷ []) ∵ move ! (1 ∷ []) $ fsplit ! $ fsplit ! $ move ! (3 ∷ 1 ∷ []) $
+      fjoin ! $ move ! (0 ∷ 2 ∷ []) $ fjoin ! $ keep ! (0 ∷ []) $ done !
   puts (e ∷ E) cs (suc i) c =
-      qed W (‵ (cell (type-of E i) (place-of E i) c) ∷ ‵ (fsep (fsep (cell (e .0) (e .1) (first-of cs)) (fdies (e .0) (e .1))) (Locals E (set i away (later-of cs)))) ∷ []) ∵ move ! (1 ∷ []) $ fsplit ! $ move ! (2 ∷ 1 ∷ []) $
+      qed W (‵ (its E i c) ∷ ‵ (fsep (fsep (cell (e .0) (e .1) (first-of cs)) (fdies (e .0) (e .1))) (Locals E (set i away (later-of cs)))) ∷ []) ∵ move ! (1 ∷ []) $ fsplit ! $ move ! (2 ∷ 1 ∷ []) $
       use2 W (‵ (Locals E (set i c (later-of cs)))) (puts E (later-of cs) i c) $ move ! (1 ∷ 0 ∷ []) $ fjoin ! $ done !
 
   -- what was not taken out is room, whatever it has
@@ -187,21 +197,22 @@ module _ {M : Type 1} (𝓤 : URA M) (H : Heap 𝓤) (A : Atoms 𝓤) (W : Given
   is-room τ l empty t = id⊢ 𝓤 _
   is-room τ l (has v) t = W .laws .at-room τ l zero v
 
-  gives-room : (E : List (Ty × ℕ)) (cs : List Cell) (i : ℕ) → T (there (cell-of E cs i)) → ent 𝓤 (sem 𝓤 H A (Locals E cs)) (sep 𝓤 (H .room (type-of E i) (place-of E i) zero) (sem 𝓤 H A (Locals E (set i away cs))))
+  gives-room : (E : Places) (cs : List Cell) (i : ℕ) → T (there (cell-of E cs i)) → ent 𝓤 (sem 𝓤 H A (Locals E cs)) (sep 𝓤 (sem 𝓤 H A (its E i empty)) (sem 𝓤 H A (Locals E (set i away cs))))
   gives-room E cs i t =
-      qed W (‵ (Locals E cs) ∷ []) ∵ use1 W (‵ (cell (type-of E i) (place-of E i) (cell-of E cs i)) ⊛ ‵ (Locals E (set i away cs))) (takes E cs i) $ split ! $
-      use1 W (‵ (froom (type-of E i) (place-of E i) zero)) (is-room (type-of E i) (place-of E i) (cell-of E cs i) t) $ done !
+      qed W (‵ (Locals E cs) ∷ []) ∵ use1 W (‵ (its E i (cell-of E cs i)) ⊛ ‵ (Locals E (set i away cs))) (takes E cs i) $ split ! $
+      use1 W (‵ (its E i empty)) (is-room (type-of E i) (place-of E i) (cell-of E cs i) t) $ done !
 
-  gives-cell : (E : List (Ty × ℕ)) (cs : List Cell) (i : ℕ) {v : Val} → cell-of E cs i ≡ has v → ent 𝓤 (sem 𝓤 H A (Locals E cs)) (sep 𝓤 (H .at fullShare (type-of E i) (place-of E i) zero v) (sem 𝓤 H A (Locals E (set i away cs))))
-  gives-cell E cs i e = subst (λ (c : Cell). ent 𝓤 (sem 𝓤 H A (Locals E cs)) (sep 𝓤 (sem 𝓤 H A (cell (type-of E i) (place-of E i) c)) (sem 𝓤 H A (Locals E (set i away cs))))) e (takes E cs i)
+  gives-cell : (E : Places) (cs : List Cell) (i : ℕ) {v : Val} → cell-of E cs i ≡ has v → ent 𝓤 (sem 𝓤 H A (Locals E cs)) (sep 𝓤 (sem 𝓤 H A (its E i (has v))) (sem 𝓤 H A (Locals E (set i away cs))))
+  gives-cell E cs i e = subst (λ (c : Cell). ent 𝓤 (sem 𝓤 H A (Locals E cs)) (sep 𝓤 (sem 𝓤 H A (its E i c)) (sem 𝓤 H A (Locals E (set i away cs))))) e (takes E cs i)
 
-  typed-of : (E : List (Ty × ℕ)) (cs : List Cell) (i : ℕ) {v : Val} → cell-of E cs i ≡ has v → ent 𝓤 (sem 𝓤 H A (Locals E cs)) (guard 𝓤 (T (hasTy (type-of E i) v) × WT v) (sem 𝓤 H A (Locals E cs)))
+  typed-of : (E : Places) (cs : List Cell) (i : ℕ) {v : Val} → cell-of E cs i ≡ has v → ent 𝓤 (sem 𝓤 H A (Locals E cs)) (guard 𝓤 (T (hasTy (type-of E i) v) × WT v) (sem 𝓤 H A (Locals E cs)))
   typed-of E cs i {v} e =
-      qed W (‵ (Locals E cs) ∷ []) ∵ use1 W (‵ (fat fullShare (type-of E i) (place-of E i) zero v) ⊛ ‵ (Locals E (set i away cs))) (gives-cell E cs i e) $ split ! $ well-typed ! (λ wt. check ! wt $
-      use2 W (‵ (Locals E (set i (has v) cs))) (puts E cs i (has v)) $ rewrite ! 0 (λ (c : Cell). ‵ (Locals E (set i c cs))) (sym e) refl $ use1 W (‵ (Locals E cs)) (subst (λ (F : Fml). ent 𝓤 (sem 𝓤 H A (Locals E (set i (cell-of E cs i) cs))) (sem 𝓤 H A F)) (same-locals E cs i) (id⊢ 𝓤 _)) $ done !)
+      qed W (‵ (Locals E cs) ∷ []) ∵ use1 W (‵ (its E i (has v)) ⊛ ‵ (Locals E (set i away cs))) (gives-cell E cs i e) $ split ! $ well-typed ! (λ wt. check ! wt $
+      use2 W (‵ (Locals E (set i (has v) cs))) (puts E cs i (has v)) $ rewrite ! 0 (λ (c : Cell). ‵ (Locals E (set i c cs))) (sym e) refl $
+      use1 W (‵ (Locals E cs)) (subst (λ (F : Fml). ent 𝓤 (sem 𝓤 H A (Locals E (set i (cell-of E cs i) cs))) (sem 𝓤 H A F)) (same-locals E cs i) (id⊢ 𝓤 _)) $ done !)
 
   -- all are freed
-  all-freed : (E : List (Ty × ℕ)) (cs : List Cell) → T (all-there E cs) → (X P : SProp 𝓤) → ent 𝓤 X P → ent 𝓤 (sep 𝓤 (sem 𝓤 H A (Locals E cs)) X) (release 𝓤 H E P)
+  all-freed : (E : Places) (cs : List Cell) → T (all-there E cs) → (X P : SProp 𝓤) → ent 𝓤 X P → ent 𝓤 (sep 𝓤 (sem 𝓤 H A (Locals E cs)) X) (release 𝓤 H E P)
   unfolding Locals
   all-freed [] cs t X P h = via 𝓤 X (snd∗ 𝓤 (emp 𝓤) X) h
   all-freed (e ∷ E) cs t X P h =
@@ -210,7 +221,7 @@ module _ {M : Type 1} (𝓤 : URA M) (H : Heap 𝓤) (A : Atoms 𝓤) (W : Given
       by ! (all-freed E (later-of cs) (both (first-of cs) (all-there E (later-of cs)) t .1) X P h)
 
 -- ---- a function is entered. Its locals are at l 0, l 1, …
-abbrev pub locals-at : List Local → (ℕ → ℕ) → List (Ty × ℕ)
+abbrev pub locals-at : List Local → (ℕ → ℕ) → Places
 locals-at [] l = []
 locals-at (local τ h ∷ ls) l = (τ, l zero) ∷ locals-at ls (λ i. l (suc i))
 
@@ -233,32 +244,36 @@ behind-result [] = []
 behind-result (r ∷ ls) = ls
 
 module _ {M : Type 1} (𝓤 : URA M) (H : Heap 𝓤) (A : Atoms 𝓤) (W : Given 𝓤 H A) where
-  all-made : (ls : List Local) (P : SProp 𝓤) (K : List (Ty × ℕ) → SProp 𝓤) → ((l : ℕ → ℕ) → ent 𝓤 (sep 𝓤 (sem 𝓤 H A (Locals (locals-at ls l) [])) P) (K (locals-at ls l))) → ent 𝓤 P (alloc 𝓤 H ls K)
+  all-made : (ls : List Local) (P : SProp 𝓤) (K : Places → SProp 𝓤) → ((l : ℕ → ℕ) → ent 𝓤 (sep 𝓤 (sem 𝓤 H A (Locals (locals-at ls l) [])) P) (K (locals-at ls l))) → ent 𝓤 P (alloc 𝓤 H ls K)
   unfolding Locals
   all-made [] P K k = via 𝓤 (sep 𝓤 (emp 𝓤) P) (emp∗ 𝓤 P) (k (λ i. zero))
   all-made (local τ h ∷ ls) P K k = allI 𝓤 (λ (b : ℕ). wand 𝓤 (sep 𝓤 (H .room τ b zero) (H .dies τ b)) (alloc 𝓤 H ls (λ E. K ((τ, b) ∷ E)))) (λ b.
       wandI 𝓤 P (sep 𝓤 (H .room τ b zero) (H .dies τ b)) (alloc 𝓤 H ls (λ E. K ((τ, b) ∷ E)))
       (all-made ls (sep 𝓤 P (sep 𝓤 (H .room τ b zero) (H .dies τ b))) (λ E. K ((τ, b) ∷ E)) (λ l.
-      qed W (‵ (Locals (locals-at ls l) []) ∷ (raw P ⊛ ‵ (froom τ b zero) ⊛ ‵ (fdies τ b)) ∷ []) ∵ move ! (1 ∷ []) $ split ! $ move ! (1 ∷ []) $ split ! $ fjoin ! $ move ! (0 ∷ 2 ∷ []) $ fjoin ! $ by ! (k (in-front b l)))))
+      qed W (‵ (Locals (locals-at ls l) []) ∷ (raw P ⊛ ‵ (froom τ b zero) ⊛ ‵ (fdies τ b)) ∷ []) ∵ move ! (1 ∷ []) $ split ! $ move ! (1 ∷ []) $ split ! $ fjoin ! $ move ! (0 ∷ 2 ∷ []) $ fjoin ! $
+      by ! (k (in-front b l)))))
 
-  all-passed : (ls : List Local) (l : ℕ → ℕ) (vs : List Val) → Fitting ls vs → (X P : SProp 𝓤) → ent 𝓤 (sep 𝓤 (sem 𝓤 H A (Locals (locals-at ls l) (having vs))) X) P → ent 𝓤 (sep 𝓤 (sem 𝓤 H A (Locals (locals-at ls l) [])) X) (pass 𝓤 H (locals-at ls l) vs P)
+  all-passed : (ls : List Local) (l : ℕ → ℕ) (vs : List Val) → Fitting ls vs → (X P : SProp 𝓤) → ent 𝓤 (sep 𝓤 (sem 𝓤 H A (Locals (locals-at ls l) (having vs))) X) P
+      → ent 𝓤 (sep 𝓤 (sem 𝓤 H A (Locals (locals-at ls l) [])) X) (pass 𝓤 H (locals-at ls l) vs P)
   unfolding Locals
   all-passed ls l [] fits X P h = h
   all-passed [] l (v ∷ vs) fits X P h = absurd fits
   all-passed (local τ h ∷ ls) l (v ∷ vs) fits X P k =
-      qed W (‵ (fsep (fsep (froom τ (l zero) zero) (fdies τ (l zero))) (Locals (locals-at ls (λ i. l (suc i))) [])) ∷ raw X ∷ []) ∵ check ! (fits .0) $ fsplit ! $ fsplit ! $ frame ! $ assume ! (‵ (fat fullShare τ (l zero) zero v)) $
+      qed W (‵ (fsep (fsep (froom τ (l zero) zero) (fdies τ (l zero))) (Locals (locals-at ls (λ i. l (suc i))) [])) ∷ raw X ∷ []) ∵ check ! (fits .0) $ fsplit ! $ fsplit ! $ frame ! $
+      assume ! (‵ (fat fullShare τ (l zero) zero v)) $
       -- [the cell; that it dies; the other locals; X]
       move ! (2 ∷ 0 ∷ 1 ∷ 3 ∷ []) $ by ! (all-passed ls (λ i. l (suc i)) vs (fits .1) (sep 𝓤 (H .at fullShare τ (l zero) zero v) (sep 𝓤 (H .dies τ (l zero)) X)) P (
       qed W (‵ (Locals (locals-at ls (λ i. l (suc i))) (having vs)) ∷ ‵ (fat fullShare τ (l zero) zero v) ∷ ‵ (fdies τ (l zero)) ∷ raw X ∷ []) ∵ move ! (1 ∷ 2 ∷ []) $ fjoin ! $ fjoin ! $ by ! k))
 
-  entered : (ls : List Local) (vs : List Val) → Fitting (behind-result ls) vs → (X : SProp 𝓤) (K : List (Ty × ℕ) → SProp 𝓤)
+  entered : (ls : List Local) (vs : List Val) → Fitting (behind-result ls) vs → (X : SProp 𝓤) (K : Places → SProp 𝓤)
       → ((l : ℕ → ℕ) → ent 𝓤 (sep 𝓤 X (sem 𝓤 H A (Locals (locals-at ls l) (empty ∷ having vs)))) (K (locals-at ls l))) → T (not (none ls)) → ent 𝓤 X (alloc 𝓤 H ls (λ E. params 𝓤 H E vs (K E)))
   unfolding Locals
   entered [] vs fits X K k z = absurd z
   entered (local τ h ∷ ls) vs fits X K k z = all-made (local τ h ∷ ls) X (λ E. params 𝓤 H E vs (K E)) (λ l.
       qed W (‵ (fsep (fsep (froom τ (l zero) zero) (fdies τ (l zero))) (Locals (locals-at ls (λ i. l (suc i))) [])) ∷ raw X ∷ []) ∵ fsplit ! $ move ! (1 ∷ 0 ∷ []) $ by ! (
       all-passed ls (λ i. l (suc i)) vs fits (sep 𝓤 (sep 𝓤 (H .room τ (l zero) zero) (H .dies τ (l zero))) X) (K (locals-at (local τ h ∷ ls) l)) (
-      qed W (‵ (Locals (locals-at ls (λ i. l (suc i))) (having vs)) ∷ (‵ (fsep (froom τ (l zero) zero) (fdies τ (l zero))) ⊛ raw X) ∷ []) ∵ move ! (1 ∷ []) $ split ! $ move ! (0 ∷ 2 ∷ []) $ fjoin ! $ move ! (1 ∷ 0 ∷ []) $ by ! (k l))))
+      qed W (‵ (Locals (locals-at ls (λ i. l (suc i))) (having vs)) ∷ (‵ (fsep (froom τ (l zero) zero) (fdies τ (l zero))) ⊛ raw X) ∷ []) ∵ move ! (1 ∷ []) $ split ! $ move ! (0 ∷ 2 ∷ []) $ fjoin ! $
+      move ! (1 ∷ 0 ∷ []) $ by ! (k l))))
 
 -- ---- the rules
 module _ {M : Type 1} {𝓤 : URA M} where
@@ -272,21 +287,22 @@ module _ {M : Type 1} {𝓤 : URA M} where
 
 module _ {M : Type 1} {𝓤 : URA M} {H : Heap 𝓤} {A : Atoms 𝓤} {K : Type 0} {W : Given 𝓤 H A} where
   pub begins : K → {Γ : List (Item 𝓤)} (C : Calls 𝓤 H) (Λ : Loops 𝓤 H) (f : Fn) (vs : List Val) (Kf : Val → SProp 𝓤) → T (not (none (f .locals))) → Fitting (behind-result (f .locals)) vs
-      → ((l : ℕ → ℕ) → Seq K W (Γ ++ (‵ (Locals (locals-at (f .locals) l) (empty ∷ having vs)) ∷ [])) (runs C Λ (locals-at (f .locals) l) (f .body) (atRet (locals-at (f .locals) l) Kf))) → Seq K W Γ (prop (WpFn 𝓤 H C Λ f vs Kf))
+      → ((l : ℕ → ℕ) → Seq K W (Γ ++ (‵ (Locals (locals-at (f .locals) l) (empty ∷ having vs)) ∷ [])) (runs C Λ (locals-at (f .locals) l) (f .body) (atRet (locals-at (f .locals) l) Kf)))
+      → Seq K W Γ (prop (WpFn 𝓤 H C Λ f vs Kf))
   unfolding WpFn
   begins t {Γ} C Λ f vs Kf z fits k = record {
     prf = entered 𝓤 H A W (f .locals) vs fits (⋆ 𝓤 H A Γ) (λ E. aim 𝓤 H (runs C Λ E (f .body) (atRet E Kf)))
         (λ l. via 𝓤 (⋆ 𝓤 H A (Γ ++ (‵ (Locals (locals-at (f .locals) l) (empty ∷ having vs)) ∷ []))) (++⊢ 𝓤 H A Γ (‵ (Locals (locals-at (f .locals) l) (empty ∷ having vs)) ∷ [])) (k l .prf)) z;
   }
 
-  pub in-local : K → (E : List (Ty × ℕ)) (cs : List Cell) (i : ℕ) {v : Val} → cell-of E cs i ≡ has v → Part K W (‵ (Locals E cs)) fullShare (type-of E i) (place-of E i) zero v (λ u. ‵ (Locals E (set i (has u) cs)))
+  pub in-local : K → (E : Places) (cs : List Cell) (i : ℕ) {v : Val} → cell-of E cs i ≡ has v → Part K W (‵ (Locals E cs)) fullShare (type-of E i) (place-of E i) zero v (λ u. ‵ (Locals E (set i (has u) cs)))
   in-local t E cs i {v} e = record {
-    out = qed W (‵ (Locals E cs) ∷ []) ∵ use1 W (‵ (fat fullShare (type-of E i) (place-of E i) zero v) ⊛ ‵ (Locals E (set i away cs))) (gives-cell 𝓤 H A W E cs i e) $ split ! $ frame ! $
-        each ! (λ (u : Val). wand 𝓤 (H .at fullShare (type-of E i) (place-of E i) zero u) (sem 𝓤 H A (Locals E (set i (has u) cs)))) (λ u. assume {P = sem 𝓤 H A (Locals E (set i (has u) cs))} ! (‵ (fat fullShare (type-of E i) (place-of E i) zero u)) $ by ! (puts 𝓤 H A W E cs i (has u)));
+    out = qed W (‵ (Locals E cs) ∷ []) ∵ use1 W (‵ (its E i (has v)) ⊛ ‵ (Locals E (set i away cs))) (gives-cell 𝓤 H A W E cs i e) $ split ! $ frame ! $
+        each ! (λ (u : Val). wand 𝓤 (H .at fullShare (type-of E i) (place-of E i) zero u) (sem 𝓤 H A (Locals E (set i (has u) cs)))) (λ u. assume {P = sem 𝓤 H A (Locals E (set i (has u) cs))} ! (‵ (its E i (has u))) $ by ! (puts 𝓤 H A W E cs i (has u)));
     same = subst (λ (c : Cell). _≡_ {A = Item 𝓤} (‵ (Locals E (set i c cs))) (‵ (Locals E cs))) e (let to : Fml → Item 𝓤 = λ F. ‵ F in ap to (same-locals E cs i));
   }
 
-module _ {M : Type 1} (𝓤 : URA M) (H : Heap 𝓤) (A : Atoms 𝓤) (Γ : List (Item 𝓤)) (E : List (Ty × ℕ)) where
+module _ {M : Type 1} (𝓤 : URA M) (H : Heap 𝓤) (A : Atoms 𝓤) (Γ : List (Item 𝓤)) (E : Places) where
   -- the last entry is the locals E, of which cs is known; the context with cs known instead; and without them
   abbrev pub Last : List Cell → Type 2
   Last cs = nth 𝓤 H A (end Γ) Γ ≡ ‵ (Locals E cs)
@@ -301,27 +317,31 @@ module _ {M : Type 1} (𝓤 : URA M) (H : Heap 𝓤) (A : Atoms 𝓤) (Γ : List
   back-to cs e = subst (λ (j : Item 𝓤). ent 𝓤 (sep 𝓤 (mean 𝓤 H A j) (⋆ 𝓤 H A (del 𝓤 H A (end Γ) Γ))) (⋆ 𝓤 H A Γ)) e (unpull 𝓤 H A (end Γ) Γ)
 
 module _ {M : Type 1} {𝓤 : URA M} {H : Heap 𝓤} {A : Atoms 𝓤} {K : Type 0} {W : Given 𝓤 H A} {Γ : List (Item 𝓤)} where
-  reads : K → (E : List (Ty × ℕ)) (cs : List Cell) (i : ℕ) {v : Val} → Last 𝓤 H A Γ E cs → cell-of E cs i ≡ has v → Reads K W Γ (type-of E i) (place-of E i) zero v
+  reads : K → (E : Places) (cs : List Cell) (i : ℕ) {v : Val} → Last 𝓤 H A Γ E cs → cell-of E cs i ≡ has v → Reads K W Γ (type-of E i) (place-of E i) zero v
   reads t E cs i {v} l e = look-in t (end Γ) (subst (λ (j : Item 𝓤). Part K W j fullShare (type-of E i) (place-of E i) zero v (λ u. ‵ (Locals E (set i (has u) cs)))) (sym l) (in-local t E cs i e))
 
-  writes : K → (E : List (Ty × ℕ)) (cs : List Cell) (i : ℕ) {v : Val} → Last 𝓤 H A Γ E cs → T (there (cell-of E cs i)) → T (hasTy (type-of E i) v) × WT v → Writes K W Γ (type-of E i) (place-of E i) zero v (knowing 𝓤 H A Γ E (set i (has v) cs))
+  writes : K → (E : Places) (cs : List Cell) (i : ℕ) {v : Val} → Last 𝓤 H A Γ E cs → T (there (cell-of E cs i)) → T (hasTy (type-of E i) v) × WT v
+      → Writes K W Γ (type-of E i) (place-of E i) zero v (knowing 𝓤 H A Γ E (set i (has v) cs))
   writes t E cs i {v} l z wt = record {
     go = λ P h. via 𝓤 (sep 𝓤 (sem 𝓤 H A (Locals E cs)) (⋆ 𝓤 H A (del 𝓤 H A (end Γ) Γ))) (out-of 𝓤 H A Γ E cs l) (
-        qed W (‵ (Locals E cs) ∷ raw (⋆ 𝓤 H A (del 𝓤 H A (end Γ) Γ)) ∷ []) ∵ check ! wt $ use1 W (‵ (froom (type-of E i) (place-of E i) zero) ⊛ ‵ (Locals E (set i away cs))) (gives-room 𝓤 H A W E cs i z) $ split ! $ frame ! $
-        assume ! (‵ (fat fullShare (type-of E i) (place-of E i) zero v)) $ use2 W (‵ (Locals E (set i (has v) cs))) (puts 𝓤 H A W E cs i (has v)) $ by ! (via 𝓤 (⋆ 𝓤 H A (knowing 𝓤 H A Γ E (set i (has v) cs))) (fill 𝓤 H A (end Γ) (‵ (Locals E (set i (has v) cs))) Γ) h));
+        qed W (‵ (Locals E cs) ∷ raw (⋆ 𝓤 H A (del 𝓤 H A (end Γ) Γ)) ∷ []) ∵ check ! wt $ use1 W (‵ (its E i empty) ⊛ ‵ (Locals E (set i away cs))) (gives-room 𝓤 H A W E cs i z) $ split ! $ frame ! $
+        assume ! (‵ (its E i (has v))) $ use2 W (‵ (Locals E (set i (has v) cs))) (puts 𝓤 H A W E cs i (has v)) $
+        by ! (via 𝓤 (⋆ 𝓤 H A (knowing 𝓤 H A Γ E (set i (has v) cs))) (fill 𝓤 H A (end Γ) (‵ (Locals E (set i (has v) cs))) Γ) h));
   }
 
   -- a field of a slice that a local has: its pointer, its count
-  slice-field : K → (E : List (Ty × ℕ)) (cs : List Cell) (i f : ℕ) {ℓ : Lifetime} {m : Mutability} {τ σ : Ty} {d b o n : ℕ} → Last 𝓤 H A Γ E cs → cell-of E cs i ≡ has (sliceVal (b, o) n) → type-of E i ≡ sliceTy (tyRef ℓ m τ)
+  slice-field : K → (E : Places) (cs : List Cell) (i f : ℕ) {ℓ : Lifetime} {m : Mutability} {τ σ : Ty} {d b o n : ℕ} → Last 𝓤 H A Γ E cs → cell-of E cs i ≡ has (sliceVal (b, o) n)
+      → type-of E i ≡ sliceTy (tyRef ℓ m τ)
       → fieldOf (sliceTy (tyRef ℓ m τ)) f ≡ some (σ, d) → Reads K W Γ σ (place-of E i) (zero + d) (getV (vcons (vptr b o) (vcons (vint w64 n) vnil)) f)
   slice-field t E cs i f {ℓ} {m} {τ} {σ} {d} {b} {o} {n} l e ty at = look-in t (end Γ) (subst (λ (j : Item 𝓤). Part K W j fullShare σ (place-of E i) (zero + d) (getV (vcons (vptr b o) (vcons (vint w64 n) vnil)) f) (λ u. ‵ (Locals E (set i (has (vstruct (setV (vcons (vptr b o) (vcons (vint w64 n) vnil)) f u))) cs)))) (sym l)
       (sub t f at (subst (λ (ρ : Ty). Part K W (‵ (Locals E cs)) fullShare ρ (place-of E i) zero (sliceVal (b, o) n) (λ u. ‵ (Locals E (set i (has u) cs)))) ty (in-local t E cs i e))))
 
   -- what a local has is a value of its type
-  knows : K → (E : List (Ty × ℕ)) (cs : List Cell) (i : ℕ) {v : Val} {G : Goal 𝓤 H} → Last 𝓤 H A Γ E cs → cell-of E cs i ≡ has v → (T (hasTy (type-of E i) v) × WT v → Seq K W Γ G) → Seq K W Γ G
+  knows : K → (E : Places) (cs : List Cell) (i : ℕ) {v : Val} {G : Goal 𝓤 H} → Last 𝓤 H A Γ E cs → cell-of E cs i ≡ has v → (T (hasTy (type-of E i) v) × WT v → Seq K W Γ G) → Seq K W Γ G
   knows t E cs i {v} {G} l e k = record {
     prf = via 𝓤 (sep 𝓤 (sem 𝓤 H A (Locals E cs)) (⋆ 𝓤 H A (del 𝓤 H A (end Γ) Γ))) (out-of 𝓤 H A Γ E cs l) (
-        qed W (‵ (Locals E cs) ∷ raw (⋆ 𝓤 H A (del 𝓤 H A (end Γ) Γ)) ∷ []) ∵ use1 W (given (T (hasTy (type-of E i) v) × WT v) (‵ (Locals E cs))) (typed-of 𝓤 H A W E cs i e) $ learn ! (λ wt. by ! (via 𝓤 (⋆ 𝓤 H A Γ) (back-to 𝓤 H A Γ E cs l) (k wt .prf))));
+        qed W (‵ (Locals E cs) ∷ raw (⋆ 𝓤 H A (del 𝓤 H A (end Γ) Γ)) ∷ []) ∵ use1 W (given (T (hasTy (type-of E i) v) × WT v) (‵ (Locals E cs))) (typed-of 𝓤 H A W E cs i e) $
+        learn ! (λ wt. by ! (via 𝓤 (⋆ 𝓤 H A Γ) (back-to 𝓤 H A Γ E cs l) (k wt .prf))));
   }
 
 module _ {M : Type 1} {𝓤 : URA M} {H : Heap 𝓤} {A : Atoms 𝓤} {K : Type 0} {W : Given 𝓤 H A} {Γ : List (Item 𝓤)} {E : Env 𝓤 H} where
@@ -360,7 +380,8 @@ module _ {M : Type 1} {𝓤 : URA M} {H : Heap 𝓤} {A : Atoms 𝓤} {K : Type 
       receives t cs {i} l z e wt = step (λ s. subst (λ (w : Val). Seq K W Γ (lands C Λ E (place i []) w rest q)) (sym e) (land t (from t (stop t)) (writes t E cs i l z wt) $ s))
 
       -- the local i has the slice at (b, o) of n elements: j gets the pointer, and k the slice
-      pub lends-on : K → (cs : List Cell) {i j k : ℕ} {ℓ : Lifetime} {m : Mutability} {τ τ′ : Ty} {b o n : ℕ} → Last 𝓤 H A Γ E cs → Last 𝓤 H A (knowing 𝓤 H A Γ E (set j (has (vptr b o)) cs)) E (set j (has (vptr b o)) cs)
+      pub lends-on : K → (cs : List Cell) {i j k : ℕ} {ℓ : Lifetime} {m : Mutability} {τ τ′ : Ty} {b o n : ℕ} → Last 𝓤 H A Γ E cs
+          → Last 𝓤 H A (knowing 𝓤 H A Γ E (set j (has (vptr b o)) cs)) E (set j (has (vptr b o)) cs)
           → lendable E cs i j k b o n ≡ (has (sliceVal (b, o) n), has (sliceVal (b, o) n), has (vptr b o), sliceTy (tyRef ℓ m τ), true, true, true, true)
           → Step K W (knowing 𝓤 H A (knowing 𝓤 H A Γ E (set j (has (vptr b o)) cs)) E (set k (has (sliceVal (b, o) n)) (set j (has (vptr b o)) cs))) (runs C Λ E rest q)
           Γ (runs C Λ E (seq (assign (place j []) (addrOf (place i (field 0 ∷ deref τ′ ∷ [])))) (seq (assign (place k []) (aggregate (copy (place j []) ∷ copy (place i (field 1 ∷ [])) ∷ []))) rest)) q)
@@ -371,26 +392,28 @@ module _ {M : Type 1} {𝓤 : URA M} {H : Heap 𝓤} {A : Atoms 𝓤} {K : Type 
           (from t (stop t)) (writes t E (set j (has (vptr b o)) cs) k l′ (yes (ap (λ x. x .5) e)) (yes (ap (λ x. x .7) e), wt .1)) $ s))
 
     -- ---- the end
-    pub leaves-within : K → (cs : List Cell) (Kf : Val → SProp 𝓤) {q : Post 𝓤 H} {r : Val} → Last 𝓤 H A Γ E cs → T (all-there E cs) → post 𝓤 H q returned ≡ atReturn 𝓤 H E Kf returned → cell-of E cs zero ≡ has r
+    pub leaves-within : K → (cs : List Cell) (Kf : Val → SProp 𝓤) {q : Post 𝓤 H} {r : Val} → Last 𝓤 H A Γ E cs → T (all-there E cs) → post 𝓤 H q returned ≡ atReturn 𝓤 H E Kf returned
+        → cell-of E cs zero ≡ has r
         → Step K W (del 𝓤 H A (end Γ) Γ) (prop (Kf r)) Γ (runs C Λ E return q)
     leaves-within t cs Kf {q} {r} l z to e = step (λ s. returns-within t Kf to (reads t E cs zero l e) $ record {
       prf = via 𝓤 (sep 𝓤 (sem 𝓤 H A (Locals E cs)) (⋆ 𝓤 H A (del 𝓤 H A (end Γ) Γ))) (out-of 𝓤 H A Γ E cs l) (all-freed 𝓤 H A W E cs z (⋆ 𝓤 H A (del 𝓤 H A (end Γ) Γ)) (Kf r) (s .prf));
     })
 
-    pub leaves : K → (cs : List Cell) {Kf : Val → SProp 𝓤} {r : Val} → Last 𝓤 H A Γ E cs → T (all-there E cs) → cell-of E cs zero ≡ has r → Step K W (del 𝓤 H A (end Γ) Γ) (prop (Kf r)) Γ (runs C Λ E return (atRet E Kf))
+    pub leaves : K → (cs : List Cell) {Kf : Val → SProp 𝓤} {r : Val} → Last 𝓤 H A Γ E cs → T (all-there E cs) → cell-of E cs zero ≡ has r
+        → Step K W (del 𝓤 H A (end Γ) Γ) (prop (Kf r)) Γ (runs C Λ E return (atRet E Kf))
     leaves t cs {Kf} l z e = leaves-within t cs Kf l z refl e
 
 module _ {M : Type 1} {𝓤 : URA M} {H : Heap 𝓤} {A : Atoms 𝓤} {K : Type 0} {W : Given 𝓤 H A} {Γ : List (Item 𝓤)} {G : Goal 𝓤 H} where
-  pub takes-out : K → (E : List (Ty × ℕ)) (cs : List Cell) (i : ℕ) {v : Val} → Last 𝓤 H A Γ E cs → cell-of E cs i ≡ has v
-      → Step K W (‵ (fat fullShare (type-of E i) (place-of E i) zero v) ∷ knowing 𝓤 H A Γ E (set i away cs)) G Γ G
+  pub takes-out : K → (E : Places) (cs : List Cell) (i : ℕ) {v : Val} → Last 𝓤 H A Γ E cs → cell-of E cs i ≡ has v
+      → Step K W (‵ (its E i (has v)) ∷ knowing 𝓤 H A Γ E (set i away cs)) G Γ G
   takes-out t E cs i {v} l e = step (λ s. record {
     prf = via 𝓤 (sep 𝓤 (sem 𝓤 H A (Locals E cs)) (⋆ 𝓤 H A (del 𝓤 H A (end Γ) Γ))) (out-of 𝓤 H A Γ E cs l) (
-        qed W (‵ (Locals E cs) ∷ raw (⋆ 𝓤 H A (del 𝓤 H A (end Γ) Γ)) ∷ []) ∵ use1 W (‵ (fat fullShare (type-of E i) (place-of E i) zero v) ⊛ ‵ (Locals E (set i away cs))) (gives-cell 𝓤 H A W E cs i e) $ split ! $ move ! (1 ∷ 2 ∷ []) $
+        qed W (‵ (Locals E cs) ∷ raw (⋆ 𝓤 H A (del 𝓤 H A (end Γ) Γ)) ∷ []) ∵ use1 W (‵ (its E i (has v)) ⊛ ‵ (Locals E (set i away cs))) (gives-cell 𝓤 H A W E cs i e) $ split ! $ move ! (1 ∷ 2 ∷ []) $
         use2 W (raw (⋆ 𝓤 H A (knowing 𝓤 H A Γ E (set i away cs)))) (fill 𝓤 H A (end Γ) (‵ (Locals E (set i away cs))) Γ) $ move ! (1 ∷ 0 ∷ []) $
-        by ! (via 𝓤 (⋆ 𝓤 H A (‵ (fat fullShare (type-of E i) (place-of E i) zero v) ∷ knowing 𝓤 H A Γ E (set i away cs))) (push 𝓤 H A (‵ (fat fullShare (type-of E i) (place-of E i) zero v)) (knowing 𝓤 H A Γ E (set i away cs))) (s .prf)));
+        by ! (via 𝓤 (⋆ 𝓤 H A (‵ (its E i (has v)) ∷ knowing 𝓤 H A Γ E (set i away cs))) (push 𝓤 H A (‵ (its E i (has v))) (knowing 𝓤 H A Γ E (set i away cs))) (s .prf)));
   })
 
-  pub puts-back : K → (E : List (Ty × ℕ)) (cs : List Cell) (i : ℕ) {τ : Ty} {b : ℕ} {v : Val} → Last 𝓤 H A Γ E cs → _≡_ {A = Cell × Ty × ℕ} (cell-of E cs i, type-of E i, place-of E i) (away, τ, b)
+  pub puts-back : K → (E : Places) (cs : List Cell) (i : ℕ) {τ : Ty} {b : ℕ} {v : Val} → Last 𝓤 H A Γ E cs → _≡_ {A = Cell × Ty × ℕ} (cell-of E cs i, type-of E i, place-of E i) (away, τ, b)
       → Step K W (knowing 𝓤 H A Γ E (set i (has v) cs)) G (‵ (fat fullShare τ b zero v) ∷ Γ) G
   puts-back t E cs i {τ} {b} {v} l e = step (λ s. record {
     prf = via 𝓤 (sep 𝓤 (H .at fullShare τ b zero v) (⋆ 𝓤 H A Γ)) (pop 𝓤 H A (‵ (fat fullShare τ b zero v)) Γ) (

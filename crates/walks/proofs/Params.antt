@@ -2,13 +2,13 @@
 -- so one parameter more that is only passed on is one more in the list.
 --     Param            a `&'a [T]`, a `&'a mut [T]`, or plain data. 'a is the first lifetime
 --     rows, spells, tells, lawfuls     their types, their machine values, and the laws of these
---     Before, beside, front, past      a tuple that begins with their values
---     owning, lefts    what they own, and what is said of their last values at exit, each with what follows it, as in the
---                      tuples of a contract
---     seps             formulas in front of another
---     parts-off, puts-before       they are parted from what follows, as one entry, and put before it again
+--     Before, beside, front, past      a tuple that begins with their values, as a call's arguments
+--     EndsBefore, ends-beside, ends-front, ends-past     one that begins with what is bound for them at exit
+--     owning, lefts    what each owns, and what is said of what is bound for it at exit
+--     seps             such a list in front of another formula, as a contract has it
+--     parts-off, puts-before       the list is parted from what follows, as one entry, and put before it again
 --     shorter-all      what they own serves at a lifetime that ends no later
--- Assumes `Given` in the last three.
+-- Assumes `Given` in `lawfuls` and the last three.
 use mathlib.Core.Path.{sym, subst}
 use Prim.Native.Nat.{ℕ}
 use mathlib.Core.List.{List, [], _∷_}
@@ -156,7 +156,8 @@ module _ {M : Type 1} (𝓤 : URA M) (H : Heap 𝓤) (A : Atoms 𝓤) (W : Given
     pub shorter-all : (ps : List Param) (a : Denots (rows κ ps)) → ent 𝓤 (sem 𝓤 H A (seps (owning κ ps a) ftrue)) (sem 𝓤 H A (seps (owning κ′ ps (at-rows ps a)) ftrue))
     shorter-all [] a = id⊢ 𝓤 (emp 𝓤)
     shorter-all (p ∷ ps) a =
-        qed W (‵ (fsep (row κ p .own (a .0) (spell κ p (a .0))) (seps (owning κ ps (a .1)) ftrue)) ∷ []) ∵ fsplit ! $ use1 W (‵ (row κ′ p .own (at-row p (a .0)) (spell κ′ p (at-row p (a .0))))) (one-shorter p (a .0)) $ move ! (1 ∷ []) $
+        qed W (‵ (fsep (row κ p .own (a .0) (spell κ p (a .0))) (seps (owning κ ps (a .1)) ftrue)) ∷ []) ∵ fsplit ! $
+        use1 W (‵ (row κ′ p .own (at-row p (a .0)) (spell κ′ p (at-row p (a .0))))) (one-shorter p (a .0)) $ move ! (1 ∷ []) $
         use1 W (‵ (seps (owning κ′ ps (at-rows ps (a .1))) ftrue)) (shorter-all ps (a .1)) $ move ! (1 ∷ 0 ∷ []) $ fjoin ! $ done !
 
 module _ {M : Type 1} {𝓤 : URA M} {H : Heap 𝓤} {A : Atoms 𝓤} {K : Type 0} (W : Given 𝓤 H A) {Γ : List (Item 𝓤)} {G : Goal 𝓤 H} where

@@ -1,12 +1,15 @@
 -- `marking::mark` meets its contract: a walk of its MIR, by hand. `nets_needed` only reads, and answers how many nets the
 -- list needs. `run_asked` is lent directory, times and values again for a lifetime of the call (`Again` of `walks`), and they
--- come back; inertial and fanins it is given for good. Then the three areas are shared for all the time
--- that they have left (`Shown` of `walks`), before the `if`: so on both sides of it each area ends as `run_asked` left it. A
--- "no" is returned; where there is none, `first_unmet` reads the areas. That both are what Mark answers is said by
--- `Marked`.
+-- come back; all else it is given for good. Then the three areas are shared for all the time that they have left (`Shown` of
+-- `walks`), before the `if`: so on both sides of it each area ends as `run_asked` left it. A "no" is returned; where there
+-- is none, `first_unmet` reads the areas. That both are what Mark answers is said by `Marked`.
+-- What is only passed on to `run_asked` stands in two lists (`Params` of `walks`), and each list is one entry of the walk's
+-- context; so are the locals (`Locals` of `walks`), the last entry, which no comment below names. A parameter more that is
+-- only passed on is one more in `task-params`.
 -- The one lifetime's token is cut in four: a share stays in the open borrow of each area that is lent again, and one
--- goes to `run_asked`. Of the shared slices nothing is had at exit (`Leaving` of `walks`); the list goes to two calls, and what
--- it owns is Copy. All that the proof knows of the three callees is that each meets its contract.
+-- goes to `run_asked`. At exit there is of each parameter what the contract says of its last value (`Leaving` of `walks`).
+-- The list goes to two calls, and what it owns is Copy. All that the proof knows of the three callees is that each meets
+-- its contract.
 -- Assumes nothing.
 use mathlib.Core.Path.{_≡_, refl, ap}
 use mathlib.Core.Bool.{Bool, true, false, not}
@@ -131,7 +134,8 @@ module _ (κ : Lft) (tk : Denots (rows κ task-params)) (wd : Denots (rows κ wo
   refused : {p r : ℕ} {b : Areas} → p ≡ netsNeeded list → Says p r b → T (not (eqb r 0)) → outcome (onPaper (Refused r)) b ≡ answer
   refused {r = r} ep e t = mark-no task words a list ep e (apart r 0 t)
 
-  marked : {p r : ℕ} {b : Areas} → p ≡ netsNeeded list → Says p r b → T (not (not (eqb r 0))) → (x : Marking) → onPaper x ≡ accepted (searched (b .plan .directory) (b .plan .times) (b .values) list) → outcome (onPaper x) b ≡ answer
+  marked : {p r : ℕ} {b : Areas} → p ≡ netsNeeded list → Says p r b → T (not (not (eqb r 0))) → (x : Marking) → onPaper x ≡ accepted (searched (b .plan .directory) (b .plan .times) (b .values) list)
+      → outcome (onPaper x) b ≡ answer
   marked {r = r} ep e t = mark-yes task words a list ep e (eqb→eq r 0 (twice-not (eqb r 0) t))
 
 made : (r : ℕ) → r < 2 ^ 8 → Is Mk.the-row (Refused r) (EL.val Mk.the-type Mk′.the-laws (Refused r) ∷ [])
@@ -258,7 +262,8 @@ module _ {M : Type 1} (𝓤 : URA M) (H : Heap 𝓤) (A : Atoms 𝓤) (W : Given
 
   goes-run : (ν : ℕ) (δd δt δv : GName) (p : ℕ) → ent 𝓤 (⋆ 𝓤 H A (Given-run ν δd δt δv p)) (Run 𝓤 H A mem run′ .pre (to-run ν δd δt δv p))
   goes-run ν δd δt δv p =
-      qed W (Given-run ν δd δt δv p) ∵ nothing ! $ move ! (3 ∷ 0 ∷ []) $ fjoin ! $ move ! (3 ∷ 0 ∷ []) $ puts-before W (owning κ word-params wd) $ move ! (3 ∷ 0 ∷ []) $ fjoin ! $ move ! (3 ∷ 0 ∷ []) $ fjoin ! $
+      qed W (Given-run ν δd δt δv p) ∵ nothing ! $ move ! (3 ∷ 0 ∷ []) $ fjoin ! $ move ! (3 ∷ 0 ∷ []) $ puts-before W (owning κ word-params wd) $ move ! (3 ∷ 0 ∷ []) $ fjoin ! $
+      move ! (3 ∷ 0 ∷ []) $ fjoin ! $
       move ! (3 ∷ 0 ∷ []) $ fjoin ! $ move ! (3 ∷ 0 ∷ []) $ fjoin ! $ move ! (3 ∷ 0 ∷ []) $ fjoin ! $ move ! (3 ∷ 0 ∷ []) $ puts-before W (owning κ task-params tk) $
       -- [what the parameters own; κ's token; ν's]
       nothing ! $ move ! (3 ∷ 0 ∷ []) $ join ! $ move ! (2 ∷ 0 ∷ []) $ join ! $ join ! $ nothing ! $ move ! (1 ∷ 0 ∷ []) $ done !
@@ -311,13 +316,16 @@ module _ {M : Type 1} (𝓤 : URA M) (H : Heap 𝓤) (A : Atoms 𝓤) (W : Given
   abbrev Fins : GName → GName → GName → Wrote → Fml
   Fins δd δt δv ws = fsep (finally u16 δd (zd ws)) (fsep (finally tick δt (zt ws)) (fsep (finally u64 δv (zv ws)) (Rest ws)))
 
-  told : (ν : ℕ) (δd δt δv : GName) (p r : ℕ) → ent 𝓤 (ensured 𝓤 H A run.ended (run.clauses 𝓤 H A mem run′) (κ, (ν ∷ [], tt)) (args-run δd δt δv p) tt r) (ex 𝓤 (λ (ws : Wrote). guard 𝓤 (Says κ tk wd lent (now list) p r (areas-at ws) × Long ws) (sem 𝓤 H A (Fins δd δt δv ws))))
+  told : (ν : ℕ) (δd δt δv : GName) (p r : ℕ)
+      → ent 𝓤 (ensured 𝓤 H A run.ended (run.clauses 𝓤 H A mem run′) (κ, (ν ∷ [], tt)) (args-run δd δt δv p) tt r) (ex 𝓤 (λ (ws : Wrote). guard 𝓤 (Says κ tk wd lent (now list) p r (areas-at ws) × Long ws) (sem 𝓤 H A (Fins δd δt δv ws))))
   told ν δd δt δv p r = exE 𝓤 _ (λ ws.
-      qed W (‵ (lasts run.ended (κ, (ν ∷ [], tt)) (args-run δd δt δv p) ws) ∷ raw (fact 𝓤 (Says κ tk wd lent (now list) p r (areas-at ws))) ∷ []) ∵ move ! (1 ∷ []) $ heard ! (Says κ tk wd lent (now list) p r (areas-at ws)) (λ e. parts-off W (for-task ws) $ move ! (1 ∷ []) $
+      qed W (‵ (lasts run.ended (κ, (ν ∷ [], tt)) (args-run δd δt δv p) ws) ∷ raw (fact 𝓤 (Says κ tk wd lent (now list) p r (areas-at ws))) ∷ []) ∵ move ! (1 ∷ []) $
+      heard ! (Says κ tk wd lent (now list) p r (areas-at ws)) (λ e. parts-off W (for-task ws) $ move ! (1 ∷ []) $
       fsplit ! $ fsplit ! $ move ! (1 ∷ []) $ feqL ! (λ ed. move ! (1 ∷ []) $ fsplit ! $ fsplit ! $ move ! (1 ∷ []) $ feqL ! (λ et. move ! (1 ∷ []) $ fsplit ! $ move ! (1 ∷ []) $ fsplit ! $ move ! (1 ∷ []) $
       fsplit ! $ fsplit ! $ move ! (1 ∷ []) $ feqL ! (λ ev. move ! (1 ∷ []) $ parts-off W (for-words ws) $
       -- [of the words; of the number; v's last list; of f; of i; t's last list; d's; of the task]
-      move ! (3 ∷ 0 ∷ []) $ fjoin ! $ move ! (3 ∷ 0 ∷ []) $ fjoin ! $ move ! (5 ∷ 0 ∷ []) $ fjoin ! $ move ! (2 ∷ 0 ∷ []) $ fjoin ! $ move ! (2 ∷ 0 ∷ []) $ fjoin ! $ move ! (2 ∷ 0 ∷ []) $ fjoin ! $ keep ! (0 ∷ []) $
+      move ! (3 ∷ 0 ∷ []) $ fjoin ! $ move ! (3 ∷ 0 ∷ []) $ fjoin ! $ move ! (5 ∷ 0 ∷ []) $ fjoin ! $ move ! (2 ∷ 0 ∷ []) $ fjoin ! $ move ! (2 ∷ 0 ∷ []) $ fjoin ! $ move ! (2 ∷ 0 ∷ []) $ fjoin ! $
+      keep ! (0 ∷ []) $
       show ! (λ (zs : Wrote). guard 𝓤 (Says κ tk wd lent (now list) p r (areas-at zs) × Long zs) (sem 𝓤 H A (Fins δd δt δv zs))) ws $ check ! (e, (ed, (et, ev))) $ done !)))))
 
   -- ---- the call of `first_unmet`, with the areas shared under the names δd, δt and δv, at their last lists
@@ -350,7 +358,8 @@ module _ {M : Type 1} (𝓤 : URA M) (H : Heap 𝓤) (A : Atoms 𝓤) (W : Given
       qed W (Left ws) ∵ suffices ! _ (ends-at 𝓤 H A f.ended stayed (f.clauses 𝓤 H A mem run′) W bound u r ws (all-fit (κ, tt) (f.ended .signature .params) (f.ended .kept) args ws)) $ says ! e $ frame ! $
       move ! (3 ∷ []) $ fsplit ! $ move ! (1 ∷ []) $ fsplit ! $ move ! (1 ∷ []) $ fsplit ! $
       -- [of f; of the words; of i; of the task; v's last list; t's; d's]
-      nothing ! $ nothing ! $ fjoin ! $ move ! (2 ∷ 0 ∷ []) $ puts-before W (for-words ws) $ feqI ! ℕ (length (zv ws)) (length vs) (g .1 .1) $ move ! (5 ∷ 0 ∷ []) $ fjoin ! $ fjoin ! $ move ! (1 ∷ 0 ∷ []) $ fjoin ! $ move ! (1 ∷ 0 ∷ []) $ fjoin ! $
+      nothing ! $ nothing ! $ fjoin ! $ move ! (2 ∷ 0 ∷ []) $ puts-before W (for-words ws) $ feqI ! ℕ (length (zv ws)) (length vs) (g .1 .1) $ move ! (5 ∷ 0 ∷ []) $ fjoin ! $ fjoin ! $
+      move ! (1 ∷ 0 ∷ []) $ fjoin ! $ move ! (1 ∷ 0 ∷ []) $ fjoin ! $
       feqI ! ℕ (length (zt ws)) (length ts) (g .1 .0) $ move ! (3 ∷ 0 ∷ []) $ fjoin ! $ fjoin ! $ feqI ! ℕ (length (zd ws)) (length ds) (g .0) $ move ! (3 ∷ 0 ∷ []) $ fjoin ! $ fjoin ! $ move ! (1 ∷ 0 ∷ []) $
       puts-before W (for-task ws) $ frame ! $ owned ! Mk.the-row (Is Mk.the-row) (EL.makes Mk.the-type Mk′.the-plain 𝓤 H A) r _ is $ done !
 
@@ -361,10 +370,11 @@ module _ {M : Type 1} (𝓤 : URA M) (H : Heap 𝓤) (A : Atoms 𝓤) (W : Given
     walk are =
         qed W (Tok ∷ ‵ (owns all-types args at) ∷ []) ∵ begins ! C Λ code.function (flat all-types at) Post tt (all-typed 𝓤 H A all-types (lawfuls 𝓤 H A W κ params) args at are) (λ l.
         -- what the parameters own: of the task, one by one of the areas, of the words, of the list. In the contexts below x'
-        -- is what x owns, and x's is what is known of its last list; the locals stand behind
+        -- is what x owns, and x's is what is known of its last list
         move ! (1 ∷ []) $ parts-off W (owning κ task-params tk) $ move ! (1 ∷ []) $ fsplit ! $ peeks ! (Area u16) (Is (Area u16)) (shows 𝓤 H A (Area u16)) (d γd ds) md (λ is-d. move ! (1 ∷ []) $
         fsplit ! $ peeks ! (Area tick) (Is (Area tick)) (shows 𝓤 H A (Area tick)) (t γt ts) mt (λ is-t. move ! (1 ∷ []) $ fsplit ! $ move ! (1 ∷ []) $ fsplit ! $ move ! (1 ∷ []) $
-        fsplit ! $ peeks ! (Area u64) (Is (Area u64)) (shows 𝓤 H A (Area u64)) (v γv vs) mv (λ is-v. move ! (1 ∷ []) $ parts-off W (owning κ word-params wd) $ move ! (1 ∷ []) $ fsplit ! $ move ! (1 ∷ []) $ drop ! $
+        fsplit ! $ peeks ! (Area u64) (Is (Area u64)) (shows 𝓤 H A (Area u64)) (v γv vs) mv (λ is-v. move ! (1 ∷ []) $ parts-off W (owning κ word-params wd) $ move ! (1 ∷ []) $ fsplit ! $
+        move ! (1 ∷ []) $ drop ! $
         -- [list'; words'; v'; f'; i'; t'; d'; task'; the token]: the list is read twice, and what it owns is Copy
         use1 W (‵ Olist ⊛ ‵ Olist) (shr-slice-copy 𝓤 H A W (named 0) κ T.the-row .twice list _) $ split ! $
         -- `nets_needed`
@@ -372,7 +382,8 @@ module _ {M : Type 1} (𝓤 : URA M) (H : Heap 𝓤) (A : Atoms 𝓤) (W : Given
         calls-at ! fm (Needs 𝓤 H A mem run′) known-needs to-needs (vars ! _ refl tt refl) (λ u₂.
         use1 W (later (some (λ (p : ℕ). (Tok ⊛ ‵ (u32 .own p (u₂ ∷ []))) ⊛ raw (ensured 𝓤 H A needs.ended (needs.clauses 𝓤 H A mem run′) (κ, tt) (list, tt) tt p)))) (id⊢ 𝓤 _) $ await ! tt $
         pick ! (λ p. split ! $ move ! (1 ∷ []) $ use1 W (raw (fact 𝓤 (p ≡ netsNeeded (now list)))) (said-needs p) $ heard ! (p ≡ netsNeeded (now list)) (λ ep.
-        split ! $ move ! (1 ∷ []) $ peeks ! u32 (Is u32) (shows 𝓤 H A u32) p (u₂ ∷ []) (λ is₂. receives ! _ refl tt (ap only (is₂ .0)) (tt, record { fits = is₂ .1 }) $ rewrite ! 0 (λ (us : List Val). ‵ (u32 .own p us)) (is₂ .0) refl $
+        split ! $ move ! (1 ∷ []) $ peeks ! u32 (Is u32) (shows 𝓤 H A u32) p (u₂ ∷ []) (λ is₂. receives ! _ refl tt (ap only (is₂ .0)) (tt, record { fits = is₂ .1 }) $
+        rewrite ! 0 (λ (us : List Val). ‵ (u32 .own p us)) (is₂ .0) refl $
         -- each `&mut` is lent on
         lends-on ! _ refl refl refl $ lends-on ! _ refl refl refl $ lends-on ! _ refl refl refl $ lends-on ! _ refl refl refl $ lends-on ! _ refl refl refl $
         -- the token is cut in four

@@ -1,7 +1,7 @@
 -- `nets_needed` is right, since a turn of its loop leaves it at the end of the list with the number that it has, or takes
 -- what one expectation needs into that number.
 -- A walk of the MIR by hand. All that it knows of `at_least` is that it meets its contract. At exit nothing of the
--- parameters is had (`stay-dropped`): a `&[T]` is seen there as it was passed.
+-- parameters is had (`Leaving` of `walks`): a `&[T]` is seen there as it was passed.
 -- The loop's invariant is in the type of its variant: a place i in the list, and a number which with what is needed from
 -- there on makes what the whole list needs.
 -- Assumes nothing.
@@ -39,7 +39,6 @@ use denote.Plain.{uint-vals, uint-makes, uint-lawful}
 use denote.Ref.{RefT}
 use denote.Slice.{sliceTy, sliceVal, ShrSlice, Room, slice-vals, shr-slice-tells}
 use denote.Index.{place-is, elem-out, elem-back, looks-slice, shuts-slice}
-use denote.Signature.{plain, shrSliceOf}
 use denote.Builtin.{u32}
 use denote.Steps.{only, owned, peeks, heard, nothing}
 use denote.Struct.Laws as LL
@@ -49,12 +48,12 @@ use denote.Triple.Entry.{Vals, onEntry}
 use denote.Triple.Spec.{Meets, tripleOf}
 use denote.Triple.Table.{entered, cited}
 use denote.Triple.Clauses.{ensured, lasts}
-use denote.Triple.Walked.{says, Stays, stay-dropped, walkOf, Walks, ends-at, walked, goes-dropped, walk-meets}
-use denote.Exit.{yes}
+use denote.Triple.Walked.{says, Stays, walkOf, Walks, ends-at, walked, walk-meets}
 use Rattle.expectations.specs.declared.Expectation.{Expectation}
 use Rattle.expectations.specs.Steps.{netsFor, netsNeeded}
 use Rattle.expectations.proofs.Turns.{nought, before-end, neededFrom, needed-start, needed-end, needed-on}
 use Rattle.expectations.proofs.Places.{size, place-fits}
+use Rattle.walks.proofs.Leaving.{stays, go-all}
 use Rattle.walks.proofs.Walking.{hole, held, tests}
 use Rattle.expectations.proofs.Expectation as T
 use Rattle.expectations.proofs.Expectation.Laws as T′
@@ -69,7 +68,7 @@ use Rattle.expectations.proofs.needs.nets_needed.Code as code
 use Rattle.expectations.proofs.needs.nets_needed.Code.Mir as piece
 
 abbrev stayed : Stays (f.ended .signature .params) (f.ended .kept)
-stayed = (stay-dropped (shrSliceOf (0 ∷ []) tt (plain (λ _. T.the-row))) yes, tt)
+stayed = stays (f.ended .signature .params) (f.ended .kept)
 
 module _ {M : Type 1} (𝓤 : URA M) (H : Heap 𝓤) (A : Atoms 𝓤) (mem : Memory → SProp 𝓤) (run : Routine → Fun 𝓤) where
   abbrev One : Contract 𝓤
@@ -242,7 +241,7 @@ module _ {M : Type 1} (𝓤 : URA M) (H : Heap 𝓤) (A : Atoms 𝓤) (W : Given
       (walk 𝓤 H A W mem run (κs .0) (qs .0) (a .0 .ptr .0) (a .0 .ptr .1) (a .0 .name) (a .0 .now) 𝓣 known (are .0 .0 .1)))
 
   f-meets : Meets 𝓤 H A f.signature (WpFn 𝓤 H (𝓣 .C) (𝓣 .Λ) code.function) (f.spec 𝓤 H A mem run)
-  f-meets = walk-meets 𝓤 H A f.ended stayed W (goes-dropped 𝓤 H A W 1 (shrSliceOf (0 ∷ []) tt (plain (λ _. T.the-row))) yes (λ κs x f. refl), tt)
+  f-meets = walk-meets 𝓤 H A f.ended stayed W (go-all 𝓤 H A W 1 (f.ended .signature .params) (f.ended .kept))
       (f.clauses 𝓤 H A mem run) (WpFn 𝓤 H (𝓣 .C) (𝓣 .Λ) code.function) (WpFn-mono 𝓤 H (W .laws) 𝓣 code.function) f-walks
 
 pub nets-needed-spec : {M : Type 1} → stated.statement M

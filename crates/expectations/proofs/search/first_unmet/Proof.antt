@@ -5,7 +5,7 @@
 -- contracts.
 -- Each loop's invariant is in the type of its variant: a place from which on the search finds what it finds from the
 -- start. What a `&[T]` owns is Copy: each call is given a copy of each. At exit nothing of the parameters is had
--- (`stay-dropped`).
+-- (`Leaving` of `walks`).
 -- Assumes nothing.
 use mathlib.Core.Path.{_≡_, refl, sym, ap, subst, _∙_}
 use mathlib.Core.Bool.{Bool, not}
@@ -41,7 +41,6 @@ use denote.Plain.{uint-lawful, bool-lawful}
 use denote.Ref.{RefT, now}
 use denote.Slice.{sliceTy, sliceVal, ShrSlice, Room, slice-vals, shr-slice-tells, shr-slice-copy}
 use denote.Index.{place-is, elem-out, elem-back, looks-slice, shuts-slice}
-use denote.Signature.{plain, shrSliceOf}
 use denote.Builtin.{u16, u64, bool}
 use denote.Steps.{only, owned, peeks, heard, nothing}
 use denote.Enum.Laws as EL
@@ -52,8 +51,7 @@ use denote.Triple.Entry.{Vals, onEntry}
 use denote.Triple.Spec.{Meets, tripleOf}
 use denote.Triple.Table.{entered, cited}
 use denote.Triple.Clauses.{ensured, lasts}
-use denote.Triple.Walked.{says, Stays, stay-dropped, walkOf, Walks, ends-at, walked, goes-dropped, walk-meets}
-use denote.Exit.{yes}
+use denote.Triple.Walked.{says, Stays, walkOf, Walks, ends-at, walked, walk-meets}
 use Rattle.lists.specs.Ladder.{accepted}
 use Rattle.method.specs.declared.Frame.{Frame}
 use Rattle.method.proofs.Frame as Fr
@@ -66,6 +64,7 @@ use Rattle.expectations.specs.Verdict.{Verdict, onPaper}
 use Rattle.expectations.specs.Steps.{breaksAt, searched}
 use Rattle.expectations.proofs.Turns.{nought, before-end, fromPlace, fromFrame, search-end, search-one, frames-end, frame-breaks, frame-holds, all-met, unmet}
 use Rattle.expectations.proofs.Places.{size, place-fits}
+use Rattle.walks.proofs.Leaving.{stays, go-all}
 use Rattle.walks.proofs.Walking.{hole, held, rest-of, tests, tests-while}
 use Rattle.walks.proofs.Ticks.{tickWidth, tick}
 use Rattle.expectations.proofs.Expectation as T
@@ -87,7 +86,7 @@ use Rattle.expectations.proofs.search.first_unmet.Code as code
 use Rattle.expectations.proofs.search.first_unmet.Code.Mir as piece
 
 abbrev stayed : Stays (f.ended .signature .params) (f.ended .kept)
-stayed = (stay-dropped (shrSliceOf (0 ∷ []) tt (plain (λ _. u16))) yes, (stay-dropped (shrSliceOf (0 ∷ []) tt (plain (λ _. tick))) yes, (stay-dropped (shrSliceOf (0 ∷ []) tt (plain (λ _. u64))) yes, (stay-dropped (shrSliceOf (0 ∷ []) tt (plain (λ _. T.the-row))) yes, tt))))
+stayed = stays (f.ended .signature .params) (f.ended .kept)
 
 -- the inner loop and what follows it in an outer turn, and what follows in an inner turn the call
 abbrev inner : Body
@@ -400,7 +399,7 @@ module _ {M : Type 1} (𝓤 : URA M) (H : Heap 𝓤) (A : Atoms 𝓤) (W : Given
       (walk 𝓤 H A W mem run (κs .0) (qs .0) (a .1 .1 .1 .0 .ptr .0) (a .1 .1 .1 .0 .ptr .1) (a .1 .1 .1 .0 .name) (a .0) (a .1 .0) (a .1 .1 .0) (a .1 .1 .1 .0 .now) 𝓣 counts breaks (are .1 .1 .1 .0 .0 .1) (are .0 .0 .1 .0) (are .1 .0 .0 .1 .0) (are .1 .1 .0 .0 .1 .0)))
 
   f-meets : Meets 𝓤 H A f.signature (WpFn 𝓤 H (𝓣 .C) (𝓣 .Λ) code.function) (f.spec 𝓤 H A mem run)
-  f-meets = walk-meets 𝓤 H A f.ended stayed W (goes-dropped 𝓤 H A W 1 (shrSliceOf (0 ∷ []) tt (plain (λ _. u16))) yes (λ κs x f. refl), (goes-dropped 𝓤 H A W 1 (shrSliceOf (0 ∷ []) tt (plain (λ _. tick))) yes (λ κs x f. refl), (goes-dropped 𝓤 H A W 1 (shrSliceOf (0 ∷ []) tt (plain (λ _. u64))) yes (λ κs x f. refl), (goes-dropped 𝓤 H A W 1 (shrSliceOf (0 ∷ []) tt (plain (λ _. T.the-row))) yes (λ κs x f. refl), tt))))
+  f-meets = walk-meets 𝓤 H A f.ended stayed W (go-all 𝓤 H A W 1 (f.ended .signature .params) (f.ended .kept))
       (f.clauses 𝓤 H A mem run) (WpFn 𝓤 H (𝓣 .C) (𝓣 .Λ) code.function) (WpFn-mono 𝓤 H (W .laws) 𝓣 code.function) f-walks
 
 pub first-unmet-spec : {M : Type 1} → stated.statement M

@@ -3,6 +3,8 @@
 -- new one, ν, met with theirs. `mark` has one lifetime, so each slice is shortened to that, and a `&mut` keeps its name:
 -- what `mark` leaves in an area is what this function leaves. After the call ν is ended, and the elements are the array
 -- again, which is then freed.
+-- All that is passed on to `mark` as it came stands in one list (`Params` of `walks`), which is one entry of the walk's
+-- context, as the locals are (`Locals` of `walks`), its last. A parameter more that is passed on is one more in `handed`.
 -- Assumes nothing.
 use mathlib.Core.Path.{_≡_, refl, sym, ap}
 use Prim.Native.Nat.{ℕ, _≤_, _+_}
@@ -187,7 +189,8 @@ module _ {M : Type 1} (𝓤 : URA M) (H : Heap 𝓤) (A : Atoms 𝓤) (W : Given
         use2 W (‵ (Whole xs (l copied))) (apart 𝓤 H A W T.the-row 12 one (LL.tells T.the-type T′.the-laws) tt xs (l copied)) $
         use1 W (‵ (First k xs (l copied)) ⊛ ‵ (Rest k xs (l copied))) (cuts 𝓤 H A W T.the-row 12 k xs (l copied)) $ split ! $
         -- a lifetime that ends no later than κ, and its token
-        lft-new ! tt (λ ν. use1 W (‵ (flft (ν ∷ []) q) ⊛ raw (wand 𝓤 (A .lft (ν ∷ []) q) (A .lft (ν ∷ []) fullShare))) (W .lfts .lft-carve ν q) $ split ! $ move ! (5 ∷ []) $ split ! $ move ! (1 ∷ []) $ drop ! $
+        lft-new ! tt (λ ν. use1 W (‵ (flft (ν ∷ []) q) ⊛ raw (wand 𝓤 (A .lft (ν ∷ []) q) (A .lft (ν ∷ []) fullShare))) (W .lfts .lft-carve ν q) $ split ! $ move ! (5 ∷ []) $ split ! $
+        move ! (1 ∷ []) $ drop ! $
         move ! (1 ∷ 0 ∷ []) $ use2 W (‵ (flft (ν ∷ κ) q)) (W .lfts .lft-meet (ν ∷ []) κ q) $
         -- [the token; the way back to ν's; the first elements; the rest; what is passed on owns; the locals]: the first
         -- elements are lent
@@ -201,7 +204,8 @@ module _ {M : Type 1} (𝓤 : URA M) (H : Heap 𝓤) (A : Atoms 𝓤) (W : Given
         peeks ! Mk.the-row (Is Mk.the-row) (shows 𝓤 H A Mk.the-row) r (u ∷ []) (λ is′. receives ! _ refl tt refl (EL.lawful Mk.the-type Mk′.the-laws 𝓤 H A W tt .typed r _ is′ .0) $
         -- [the result; the token; what is said; the lender's part; the way back to ν's; the rest; the locals]: ν is ended, and
         -- the elements are the array again
-        move ! (1 ∷ []) $ split ! $ use1 W (‵ (flft (ν ∷ []) q) ⊛ ‵ (flft κ q)) (W .lfts .lft-unmeet (ν ∷ []) κ q) $ split ! $ move ! (0 ∷ 6 ∷ []) $ apply ! $ use1 W (‵ (flft (ν ∷ []) fullShare)) (id⊢ 𝓤 _) $ lft-end ! tt $
+        move ! (1 ∷ []) $ split ! $ use1 W (‵ (flft (ν ∷ []) q) ⊛ ‵ (flft κ q)) (W .lfts .lft-unmeet (ν ∷ []) κ q) $ split ! $ move ! (0 ∷ 6 ∷ []) $ apply ! $
+        use1 W (‵ (flft (ν ∷ []) fullShare)) (id⊢ 𝓤 _) $ lft-end ! tt $
         use1 W (‵ (fdead (ν ∷ κ))) (W .lfts .dead-incl (ν ∷ κ) (ν ∷ []) (λ a m. mem-append-left κ m)) $ move ! (0 ∷ 5 ∷ []) $ lent-back ! tt $
         move ! (0 ∷ 5 ∷ []) $ use2 W (‵ (Whole xs (l copied))) (glues 𝓤 H A W T.the-row 12 k xs (l copied) (len is)) $
         use1 W (‵ (fat fullShare (tyArray T′.mir 12) (l copied) 0 (only (twelve xs)))) (together 𝓤 H A W T.the-row 12 one (LL.tells T.the-type T′.the-laws) xs (l copied)) $
