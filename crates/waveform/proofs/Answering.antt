@@ -15,12 +15,12 @@ use Rattle.lists.specs.Outcome.{outcome}
 use Rattle.lists.proofs.Choices.{zero-or, bool-ext, and-left, and-both}
 use Rattle.lists.proofs.Ladders.{first, first-none, firstNo-append, asked, ask-yes, unless-none, refused-some}
 use Rattle.method.specs.WordLists.{WordLists, Lengths, wordLists, lengthsOf}
-use Rattle.circuit.specs.File.{inputsOf, circuitOf}
+use Rattle.circuit.specs.File.{inputsOf}
 use Rattle.circuit.specs.Limits.{mostInputs, mostGates}
 use Rattle.circuit.specs.declared.Reading.{Reading}
 use Rattle.circuit.specs.declared.Reading.the-variants as R
 use Rattle.circuit.specs.Questions as reader
-use Rattle.circuit.specs.Task.{Task, taskOf, netsIn, framesIn}
+use Rattle.circuit.specs.Task.{Task, taskOf, circuitIn, netsIn, framesIn}
 use Rattle.circuit.proofs.Gated.{questions-numbered}
 use Rattle.circuit.proofs.Accepted.{Head, passed}
 use Rattle.circuit.proofs.Parts.{circuit-inputs, gates-length, reading-accepted, inputs-are, gates-are, few}
@@ -113,6 +113,9 @@ module _ (task : Task) (w : WordLists) (a : Areas) where
 -- ---- the lists and the part
 
 module _ (file part : List ℕ) where
+  abbrev task : Task
+  task = taskOf file
+
   abbrev n : ℕ
   n = length part
 
@@ -137,7 +140,7 @@ module _ (file part : List ℕ) where
 
   -- the ladder behind the reader's
   abbrev rest : List Question
-  rest = (eqb n (16 * inputsOf file) orElse 11) ∷ lastQuestion (taskOf file)
+  rest = (eqb n (16 * inputsOf file) orElse 11) ∷ lastQuestion task
 
   joined : firstNo (questions file part) ≡ first (firstNo (reader.questions file)) (firstNo rest)
   unfolding questions
@@ -146,22 +149,22 @@ module _ (file part : List ℕ) where
   -- Run's ladder comes to the same
   module _ (a : Areas) (suit : engine.areasSuit a ≡ true) where
     abbrev own : List Question
-    own = (engine.areasSuit a orElse 10) ∷ (engine.wordsSuit (inputsOf file) eachOf orElse 11) ∷ lastQuestion (taskOf file)
+    own = (engine.areasSuit a orElse 10) ∷ (engine.wordsSuit (inputsOf file) eachOf orElse 11) ∷ lastQuestion task
 
-    run-joined : firstNo (engine.questions (taskOf file) eachOf a) ≡ first (firstNo (reader.questions file)) (firstNo own)
+    run-joined : firstNo (engine.questions task eachOf a) ≡ first (firstNo (reader.questions file)) (firstNo own)
     unfolding engine.questions engine.firstQuestions
     run-joined =
-        ap firstNo (append-assoc (reader.questions file) (engine.ownQuestions (inputsOf file) eachOf a) (lastQuestion (taskOf file)))
+        ap firstNo (append-assoc (reader.questions file) (engine.ownQuestions (inputsOf file) eachOf a) (lastQuestion task))
         ∙ firstNo-append (reader.questions file) own (questions-numbered file)
 
     same-rest : (m : ℕ) → firstNo (reader.questions file) ≡ m → first m (firstNo own) ≡ first m (firstNo rest)
     same-rest zero e =
         let h = file-head e in
         ask-yes (engine.areasSuit a) 10 _ suit
-        ∙ ap (λ (b : Bool). firstNo ((b orElse 11) ∷ lastQuestion (taskOf file))) (same-words (h .inputs-least) (h .inputs-most))
+        ∙ ap (λ (b : Bool). firstNo ((b orElse 11) ∷ lastQuestion task)) (same-words (h .inputs-least) (h .inputs-most))
     same-rest (suc m) e = refl
 
-    same-number : firstNo (engine.questions (taskOf file) eachOf a) ≡ firstNo (questions file part)
+    same-number : firstNo (engine.questions task eachOf a) ≡ firstNo (questions file part)
     same-number = run-joined ∙ same-rest (firstNo (reader.questions file)) refl ∙ sym joined
 
   -- no "no": the parts of that
@@ -169,30 +172,30 @@ module _ (file part : List ℕ) where
     both : (firstNo (reader.questions file) ≡ 0) × (firstNo rest ≡ 0)
     both = first-none (firstNo (reader.questions file)) (firstNo rest) (sym joined ∙ e)
 
-    words-asked : (eqb n (16 * inputsOf file) ≡ true) × (firstNo (lastQuestion (taskOf file)) ≡ 0)
-    words-asked = asked (eqb n (16 * inputsOf file)) 11 (lastQuestion (taskOf file)) (λ z. omega arith) (both .1)
+    words-asked : (eqb n (16 * inputsOf file) ≡ true) × (firstNo (lastQuestion task) ≡ 0)
+    words-asked = asked (eqb n (16 * inputsOf file)) 11 (lastQuestion task) (λ z. omega arith) (both .1)
 
     each-is : each ≡ inputsOf file
     each-is = list-exact n (inputsOf file) (file-head (both .0) .inputs-most) (eqb-true n (16 * inputsOf file) (words-asked .0))
 
-    fit : fits (framesIn (taskOf file)) ≡ true
-    fit = asked (fits (framesIn (taskOf file))) 13 [] (λ z. omega arith) (words-asked .1) .0
+    fit : fits (framesIn task) ≡ true
+    fit = asked (fits (framesIn task)) 13 [] (λ z. omega arith) (words-asked .1) .0
 
-    lines-fit : (w : WordLists) → length (lines (taskOf file) w) ≤ bufferLength
+    lines-fit : (w : WordLists) → length (lines task w) ≤ bufferLength
     lines-fit w =
         let h = file-head (both .0) in
         omega (
           arith,
-          lines-length (taskOf file) w,
-          all-words (circuitOf file) w,
-          fits-total (framesIn (taskOf file)) fit,
+          lines-length task w,
+          all-words (circuitIn task) w,
+          fits-total (framesIn task) fit,
           h .inputs-most,
           h .gates-most,
           circuit-inputs file,
           gates-length file,
         )
 
-  answer-yes : firstNo (questions file part) ≡ 0 → answerText file part ≡ lines (taskOf file) (wordsOf file part)
+  answer-yes : firstNo (questions file part) ≡ 0 → answerText file part ≡ lines task (wordsOf file part)
   unfolding answerText
   answer-yes e = rw (eq-eqb (firstNo (questions file part)) 0 e) refl
 
@@ -202,21 +205,21 @@ module _ (file part : List ℕ) where
 
   -- Run's answer to the lists is the answer
   module _ (a : Areas) (suit : engine.areasSuit a ≡ true) {w : WordLists} (b : w .before ≡ wordsFrom part 0 each) (f : w .after ≡ wordsFrom part each each) where
-    number-is : firstNo (engine.questions (taskOf file) (lengthsOf w) a) ≡ firstNo (questions file part)
+    number-is : firstNo (engine.questions task (lengthsOf w) a) ≡ firstNo (questions file part)
     number-is =
-        ap₂ (λ (k l : ℕ). firstNo (engine.questions (taskOf file) (record { before = k; after = l }) a)) (ap length b ∙ words-length part 0 each) (ap length f ∙ words-length part each each)
+        ap₂ (λ (k l : ℕ). firstNo (engine.questions task (record { before = k; after = l }) a)) (ap length b ∙ words-length part 0 each) (ap length f ∙ words-length part each each)
         ∙ same-number a suit
 
-    yes : firstNo (questions file part) ≡ 0 → runText (taskOf file) w a ≡ answerText file part
+    yes : firstNo (questions file part) ≡ 0 → runText task w a ≡ answerText file part
     yes e =
-        text-yes (taskOf file) w a (number-is ∙ e)
-        ∙ ap₂ (λ (x y : List ℕ). lines (taskOf file) (wordLists x y)) (b ∙ ap (wordsFrom part 0) (each-is e)) (f ∙ ap (λ (k : ℕ). wordsFrom part k k) (each-is e))
+        text-yes task w a (number-is ∙ e)
+        ∙ ap₂ (λ (x y : List ℕ). lines task (wordLists x y)) (b ∙ ap (wordsFrom part 0) (each-is e)) (f ∙ ap (λ (k : ℕ). wordsFrom part k k) (each-is e))
         ∙ sym (answer-yes e)
 
-    no : (firstNo (questions file part) ≡ 0 → ⊥) → runText (taskOf file) w a ≡ answerText file part
-    no e = text-no (taskOf file) w a (λ z. e (sym number-is ∙ z)) ∙ ap refusal number-is ∙ sym (answer-no e)
+    no : (firstNo (questions file part) ≡ 0 → ⊥) → runText task w a ≡ answerText file part
+    no e = text-no task w a (λ z. e (sym number-is ∙ z)) ∙ ap refusal number-is ∙ sym (answer-no e)
 
-    pub answer-is : runText (taskOf file) w a ≡ answerText file part
+    pub answer-is : runText task w a ≡ answerText file part
     answer-is = ⊎-elim yes no (zero-or (firstNo (questions file part)))
 
   pub answer-fits : length (answerText file part) ≤ bufferLength
