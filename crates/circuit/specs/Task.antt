@@ -1,5 +1,5 @@
--- What a call that plans is handed, its task: today the circuit file. And what follows from a task and, in a run, from its words:
--- the frames, the packed values, and in each lane the machine.
+-- What a call that plans is handed, its task: today the circuit file. And what follows from a task and, in a run, from its
+-- words: the frames, the packed values, and in each lane the machine.
 use Prim.Native.Nat.{ℕ}
 use mathlib.Core.Bool.{Bool}
 use mathlib.Core.List.{List}
@@ -46,8 +46,8 @@ potentialIn task n t = potential (circuitIn task) n t
 abbrev pub stimuliIn : Task → WordLists → ℕ → Stimuli
 stimuliIn task w L = laneOf L w
 
--- in lane L net n's values, frame by frame, and its level in the time-by-time machine, each run for that lane's pattern pair by
--- itself
+-- in lane L net n's values, frame by frame, and its level in the time-by-time machine, each run for that lane's pattern pair
+-- by itself
 abbrev pub laneValues : Task → WordLists → ℕ → ℕ → List Bool
 laneValues task w L n = traceAt (circuitIn task) (stimuliIn task w L) n .values
 
