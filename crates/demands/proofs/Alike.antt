@@ -41,7 +41,7 @@ module _ (task : Task) (w w′ : WordLists) (L : ℕ) (a : AgreeIn L (circuitIn 
       agrees : (e : Expectation) → e .lane ≡ L → Agreeing (timesIn task) (laneValues task w) (timesIn task) (laneValues task w′) e
       agrees e is = (refl, rw is (same-values (circuitIn task) w w′ L a (e .net .0)))
 
--- and of a file the circuit alone
+-- and of a task the circuit alone
 one-circuit : (task task′ : Task) (w : WordLists) → circuitIn task ≡ circuitIn task′ → (list : List Expectation) → verdict task w list ≡ verdict task′ w list
 unfolding verdict
 one-circuit task task′ w same list = ap (λ (c : Circuit). verdictFrom (λ (n : ℕ). framesAt c n .times) (λ (L n : ℕ). traceAt c (laneOf L w) n .values) 0 list) same
