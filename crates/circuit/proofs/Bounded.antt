@@ -1,5 +1,5 @@
--- What the limits of a circuit give the method: no feedback, and potential times that fit into two bytes; and they hold of
--- its first gates too.
+-- What the limits of a circuit give the method: no feedback, and potential times that fit into two bytes, where no input
+-- changes after 255; and they hold of its first gates too.
 -- Assumes nothing.
 use Prim.Native.Nat.{ℕ, zero, suc, _+_, _-_, _*_, _≤_, _<_}
 use mathlib.Core.Path.{_≡_, refl}
@@ -10,6 +10,9 @@ use native.Mathlib.Nat.{mul-le-mul-left}
 use lib.ListN.{length, getD, take}
 use lib.Seq.{length-take-le}
 use Rattle.method.specs.Circuit.{Gate, Circuit, noGate, gateAt, NoFeedback, DelaysUpTo}
+use Rattle.method.specs.Stimulus.{Moments}
+use Rattle.method.specs.Changes.{lastChange}
+use Rattle.method.specs.Times.{among}
 use Rattle.method.specs.Agreement.{potential}
 use Rattle.method.proofs.Agreement.{agreement}
 use Rattle.circuit.specs.Limits.{mostGates, mostDelay, mostTime, GateWithin, GatesWithin, Within}
@@ -30,21 +33,22 @@ module _ (c : Circuit) (w : Within c) where
   pub delays-most : DelaysUpTo mostDelay c
   delays-most j h = within-at j h .delay-most
 
-  -- 63 for each gate up to the net
-  pub time-most : (n t : ℕ) → potential c n t ≡ true → t ≤ 1 + mostDelay * (n + 1 - c .inputs)
-  time-most n t e = agreement .times-bounded c mostDelay delays-most n t e
+  module _ (m : Moments) (early : (i t : ℕ) → among t (m i) ≡ true → t ≤ lastChange) where
+    -- 63 for each gate up to the net
+    pub time-most : (n t : ℕ) → potential c m n t ≡ true → t ≤ lastChange + mostDelay * (n + 1 - c .inputs)
+    time-most n t e = agreement .times-bounded c m lastChange mostDelay early delays-most n t e
 
-  -- and there are at most 128 gates
-  pub time-low : (n t : ℕ) → n < c .inputs + length (c .gates) → potential c n t ≡ true → t ≤ mostTime
-  time-low n t h e =
-      let few : n + 1 - c .inputs ≤ mostGates = omega (arith, w .gates-most) in
-      let most : mostDelay * (n + 1 - c .inputs) ≤ mostDelay * mostGates = mul-le-mul-left mostDelay few in
-      let last : t ≤ 1 + mostDelay * (n + 1 - c .inputs) = time-most n t e in
-      omega arith
+    -- and there are at most 128 gates
+    pub time-low : (n t : ℕ) → n < c .inputs + length (c .gates) → potential c m n t ≡ true → t ≤ mostTime
+    time-low n t h e =
+        let few : n + 1 - c .inputs ≤ mostGates = omega (arith, w .gates-most) in
+        let most : mostDelay * (n + 1 - c .inputs) ≤ mostDelay * mostGates = mul-le-mul-left mostDelay few in
+        let last : t ≤ lastChange + mostDelay * (n + 1 - c .inputs) = time-most n t e in
+        omega arith
 
-  -- so two bytes suffice
-  pub time-small : (n t : ℕ) → n < c .inputs + length (c .gates) → potential c n t ≡ true → t < 65536
-  time-small n t h e = omega (arith, time-low n t h e)
+    -- so two bytes suffice
+    pub time-small : (n t : ℕ) → n < c .inputs + length (c .gates) → potential c m n t ≡ true → t < 65536
+    time-small n t h e = omega (arith, time-low n t h e)
 
 -- the inputs and the first gates keep the limits too
 first-gates : (net j : ℕ) (gs : List Gate) → GatesWithin net gs → GatesWithin net (take j gs)

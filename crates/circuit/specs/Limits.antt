@@ -8,6 +8,7 @@ use Rattle.lists.specs.Tables.{allBelow}
 use Rattle.lists.specs.Ladder.{between}
 use Rattle.method.specs.Kinds.{takes}
 use Rattle.method.specs.Circuit.{Gate, Circuit}
+use Rattle.method.specs.Changes.{lastChange}
 
 abbrev pub mostInputs : ℕ
 mostInputs = 32
@@ -19,9 +20,10 @@ mostGates = 128
 abbrev pub mostDelay : ℕ
 mostDelay = 63
 
--- no potential time of a circuit within the limits is later: 1, and the greatest delay for each gate
+-- no potential time of a circuit within the limits is later: the last that an input can change, and the greatest delay for
+-- each gate
 abbrev pub mostTime : ℕ
-mostTime = 1 + mostDelay * mostGates
+mostTime = lastChange + mostDelay * mostGates
 
 -- d is from 1 to 63, and di from 0 to 63
 unfoldable pub delaysSuit : ℕ → ℕ → Bool

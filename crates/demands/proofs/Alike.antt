@@ -2,25 +2,27 @@
 -- that lane reads no other lane's trace, and the lane's own trace is the same in both.
 -- Assumes nothing.
 use Prim.Native.Nat.{ℕ}
-use mathlib.Core.Path.{_≡_, refl, sym, ap, subst, _∙_}
+use mathlib.Core.Path.{_≡_, refl, sym, ap, ap₂, subst, _∙_}
 use mathlib.Core.Bool.{true}
 use mathlib.Core.List.{List}
+use lib.ListN.{length}
 use Rattle.lists.specs.Ladder.{Answer, accepted}
 use Rattle.lists.specs.Every.{Every}
 use Rattle.lists.proofs.Each.{every-map}
 use Rattle.method.specs.Circuit.{Circuit}
 use Rattle.method.specs.Frames.{framesAt}
 use Rattle.method.specs.Traces.{traceAt}
-use Rattle.method.specs.Packed.{laneOf}
+use Rattle.method.specs.Changes.{Schedule, momentsFrom}
+use Rattle.method.specs.Packed.{changesBefore, laneOf}
 use Rattle.method.specs.Lanes.{AgreeIn}
 use Rattle.method.proofs.Lanes.{same-values}
 use Rattle.method.specs.WordLists.{WordLists, lengthsOf}
-use Rattle.circuit.specs.Task.{Task, circuitIn, netsIn, timesIn, laneValues}
+use Rattle.circuit.specs.Task.{Task, circuitIn, momentsIn, netsIn, timesIn, laneValues}
 use Rattle.engine.specs.Areas.{Areas}
 use Rattle.engine.specs.Questions.{areasSuit}
 use Rattle.engine.specs.After as engine
 use Rattle.engine.proofs.Asking.{passed-again}
-use Rattle.engine.proofs.Accepted.{parts, none}
+use Rattle.engine.proofs.Accepted.{parts, none, held, agree-all}
 use Rattle.expectations.specs.declared.Expectation.{Expectation}
 use Rattle.expectations.specs.Suits.{listSuits}
 use Rattle.expectations.specs.Verdict.{Verdict, verdictFrom}
@@ -33,18 +35,20 @@ use Rattle.demands.proofs.Holding.{first-none-fails}
 
 -- ---- the verdict reads the lane alone
 
-module _ (task : Task) (w w′ : WordLists) (L : ℕ) (a : AgreeIn L (circuitIn task .inputs) w w′) where
+module _ (task : Task) (w w′ : WordLists) (L : ℕ) (a : AgreeIn L (circuitIn task .inputs) (changesBefore (momentsIn task) (circuitIn task .inputs)) w w′) where
   same-verdict : (list : List Expectation) → Every (λ (e : Expectation). e .lane ≡ L) list → verdict task w list ≡ verdict task w′ list
   unfolding verdict
   same-verdict list only = verdict-ext (timesIn task) (laneValues task w) (timesIn task) (laneValues task w′) 0 list (every-map agrees only)
     where
       agrees : (e : Expectation) → e .lane ≡ L → Agreeing (timesIn task) (laneValues task w) (timesIn task) (laneValues task w′) e
-      agrees e is = (refl, rw is (same-values (circuitIn task) w w′ L a (e .net .0)))
+      agrees e is = (refl, rw is (same-values (circuitIn task) (momentsIn task) w w′ L a (e .net .0)))
 
--- and of a task the circuit alone
-one-circuit : (task task′ : Task) (w : WordLists) → circuitIn task ≡ circuitIn task′ → (list : List Expectation) → verdict task w list ≡ verdict task′ w list
+-- and of a task the circuit and the change times alone
+one-circuit : (task task′ : Task) (w : WordLists) → circuitIn task ≡ circuitIn task′ → task .schedule ≡ task′ .schedule → (list : List Expectation) → verdict task w list ≡ verdict task′ w list
 unfolding verdict
-one-circuit task task′ w same list = ap (λ (c : Circuit). verdictFrom (λ (n : ℕ). framesAt c n .times) (λ (L n : ℕ). traceAt c (laneOf L w) n .values) 0 list) same
+one-circuit task task′ w same one list =
+    ap₂ (λ (c : Circuit) (h : Schedule). verdictFrom (λ (n : ℕ). framesAt c (momentsFrom h) n .times) (λ (L n : ℕ). traceAt c (laneOf L (momentsFrom h) w) n .values) 0 list)
+    same one
 
 -- ---- Mark accepts again, in areas of the right lengths
 
@@ -61,12 +65,12 @@ one-verdict : {x y : Answer Verdict} {v : Verdict} → x ≡ accepted v → y �
 one-verdict {x} {y} {v} p q = subst (λ (a : Answer Verdict). SameVerdict a y) (sym p) (subst (λ (a : Answer Verdict). SameVerdict (accepted v) a) (sym q) (verdicts v))
 
 pub marked-alike : (task : Task) (w : WordLists) {left : Areas} (task′ : Task) (w′ : WordLists) {left′ : Areas} (L : ℕ)
-    → engine.LeftByRun task w left → engine.LeftByRun task′ w′ left′ → circuitIn task ≡ circuitIn task′
-    → AgreeIn L (circuitIn task .inputs) w w′
+    → engine.LeftByRun task w left → engine.LeftByRun task′ w′ left′ → circuitIn task ≡ circuitIn task′ → task .schedule ≡ task′ .schedule
+    → AgreeIn L (circuitIn task .inputs) (length (task .schedule .times)) w w′
     → (list : List Expectation) → listSuits (netsIn task) list ≡ true → Every (λ (e : Expectation). e .lane ≡ L) list
     → (entry entry′ : Areas) → areasSuit entry ≡ true → areasSuit entry′ ≡ true
     → SameVerdict (markOf task w entry list .answer) (markOf task′ w′ entry′ list .answer)
-marked-alike task w task′ w′ L r r′ same a list y only entry entry′ s s′ =
+marked-alike task w task′ w′ L r r′ same one a list y only entry entry′ s s′ =
     one-verdict
-    (marked-again task w r list y entry s ∙ ap accepted (same-verdict task w w′ L a list only))
-    (marked-again task′ w′ r′ list (rw same at y) entry′ s′ ∙ ap accepted (sym (one-circuit task task′ w′ same list)))
+    (marked-again task w r list y entry s ∙ ap accepted (same-verdict task w w′ L (agree-all task w w′ L (held task w r) a) list only))
+    (marked-again task′ w′ r′ list (rw same at y) entry′ s′ ∙ ap accepted (sym (one-circuit task task′ w′ same one list)))

@@ -8,9 +8,10 @@ use lib.ListN.{length}
 use Rattle.lists.specs.Ladder.{firstNo}
 use Rattle.method.specs.Look.{changes}
 use Rattle.method.specs.Words.{lane}
+use Rattle.method.proofs.Changes.{suited}
 use Rattle.method.proofs.Netwise.{net-by-net}
 use Rattle.method.specs.WordLists.{WordLists, lengthsOf}
-use Rattle.circuit.specs.File.{circuitOf}
+use Rattle.circuit.specs.File.{inputsOf, circuitOf}
 use Rattle.circuit.specs.Questions as circuit
 use Rattle.circuit.specs.Task.{Task, netsIn, framesIn}
 use Rattle.circuit.proofs.Gated.{questions-numbered}
@@ -21,7 +22,7 @@ use Rattle.planner.specs.Plan.{planOf}
 use Rattle.planner.specs.Questions as planner
 use Rattle.method.specs.Layout.{laid}
 use Rattle.method.specs.Areas as plan
-use Rattle.planner.proofs.Calling.{plan-numbered, accepted-read, accepted-kept, accepted-lengths}
+use Rattle.planner.proofs.Calling.{plan-numbered, accepted-timed, accepted-read, accepted-kept, accepted-lengths}
 use Rattle.engine.specs.Areas.{Areas, allCleared}
 use Rattle.engine.specs.Questions as engine
 use Rattle.engine.specs.Run.{filled, runLeft, runOf}
@@ -82,6 +83,8 @@ demand-2-method =
       every-net = λ file s e. let nets = net-by-net (circuitOf file) in (nets .0, nets .1 (no-feedback (circuitOf file) (faithful .within file s e)));
       plan-read = λ task entry left totals e. accepted-read task entry e;
       run-read = λ task w left r. held task w (engine-ran task w r) .read;
+      plan-ordered = λ task entry left totals e. suited (inputsOf (task .file)) (task .schedule) (accepted-timed task entry e) .ordered;
+      run-ordered = λ task w left r. suited (inputsOf (task .file)) (task .schedule) (held task w (engine-ran task w r) .timed) .ordered;
       plan = λ task entry left totals e. accepted-kept task entry e;
       run-plan = λ task w left r. held task w (engine-ran task w r) .plan-is;
       run-values = λ task w left r. held task w (engine-ran task w r) .values-are;
@@ -153,7 +156,7 @@ demand-3-alike =
       level = λ L task w left task′ w′ left′ two n t h u. two-alike L task w left task′ w′ left′ two .same-level n t h;
       count = λ L task w left task′ w′ left′ two. two-alike L task w left task′ w′ left′ two .same-count;
       marking = λ L task w left task′ w′ left′ two.
-          marked-alike task w task′ w′ L (engine-ran task w (two .ran)) (engine-ran task′ w′ (two .ran′)) (two .one-circuit) (two .words-agree);
+          marked-alike task w task′ w′ L (engine-ran task w (two .ran)) (engine-ran task′ w′ (two .ran′)) (two .one-circuit) (two .one-schedule) (two .words-agree);
     }
 
 -- ---- all of them

@@ -26,7 +26,7 @@ past-run task w left r = after-runs .after-run task w left (engine-ran task w r)
 pub two-alike : (L : ℕ) (task : Task) (w : WordLists) (left : Areas) (task′ : Task) (w′ : WordLists) (left′ : Areas) → TwoRuns L task w left task′ w′ left′ → engine.Alike task L left left′
 two-alike L task w left task′ w′ left′ two =
     after-runs .runs-alike task task′ w w′ left left′ L (two .lane) (engine-ran task w (two .ran)) (engine-ran task′ w′ (two .ran′))
-    (two .one-circuit) (two .words-agree)
+    (two .one-circuit) (two .one-schedule) (two .words-agree)
 
 module _ (task : Task) (w : WordLists) {left : Areas} (r : engine.LeftByRun task w left) where
   pub first-none-fails : firstNo (firstQuestions task (lengthsOf w) (r .entry)) ≡ 0

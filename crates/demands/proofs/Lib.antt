@@ -6,3 +6,4 @@ pub mod Meeting
 pub mod Alike
 pub mod Demands
 pub mod Spans
+pub mod Once

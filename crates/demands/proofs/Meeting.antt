@@ -12,10 +12,13 @@ use Rattle.lists.proofs.Each.{every-first, every-map, every-split, every-both}
 use Rattle.lists.proofs.Ladders.{accepted-same}
 use Rattle.method.specs.Indices.{lastFrame}
 use Rattle.method.specs.Look.{level}
+use Rattle.method.specs.Stimulus.{Ordered}
 use Rattle.method.specs.WordLists.{WordLists}
-use Rattle.method.proofs.Tracing.{value-each}
+use Rattle.method.proofs.Changes.{suited}
+use Rattle.method.proofs.Lanes.{lane-each, lane-level}
 use Rattle.method.proofs.Agreement.{agreement}
-use Rattle.circuit.specs.Task.{Task, circuitIn, netsIn, timesIn, stimuliIn, laneValues}
+use Rattle.circuit.specs.File.{inputsOf}
+use Rattle.circuit.specs.Task.{Task, circuitIn, momentsIn, netsIn, timesIn, laneValues}
 use Rattle.engine.specs.Areas.{Areas}
 use Rattle.engine.specs.After.{After, timesOf, levelIn}
 use Rattle.engine.proofs.After.{after-runs}
@@ -41,6 +44,9 @@ module _ (task : Task) (w : WordLists) {left : Areas} (h : After task w left) wh
   abbrev Suits : Expectation → Type 0
   Suits e = suits (netsIn task) e ≡ true
 
+  ordered : Ordered (momentsIn task)
+  ordered = suited (inputsOf (task .file)) (task .schedule) (h .changes-suit) .ordered
+
   module _ (e : Expectation) (y : Suits e) where
     below : e .net .0 < netsIn task
     below = net-below (netsIn task) e y
@@ -49,10 +55,10 @@ module _ (task : Task) (w : WordLists) {left : Areas} (h : After task w left) wh
     seen : (t : ℕ) → levelIn left (e .net .0) (e .lane) t ≡ accepted (level (times (e .net .0)) (levels (e .lane) (e .net .0)) t)
     seen t =
         h .level-is-machine (e .net .0) (e .lane) t below (lane-below (netsIn task) e y)
-        ∙ ap accepted (sym (agreement .level-is-machine (circuitIn task) (stimuliIn task w (e .lane)) (e .net .0) t))
+        ∙ ap accepted (sym (lane-level (circuitIn task) (momentsIn task) w (e .lane) (e .net .0) ordered t))
 
     sound : Sound times levels e
-    sound = (agreement .times-rise (circuitIn task) (e .net .0), value-each (circuitIn task) (stimuliIn task w (e .lane)) (e .net .0), span-is (netsIn task) e y)
+    sound = (agreement .times-rise (circuitIn task) (momentsIn task) ordered (e .net .0), lane-each (circuitIn task) (momentsIn task) w (e .lane) (e .net .0), span-is (netsIn task) e y)
 
     kept-met : MetBy (LevelAt times levels) e → Met left e
     kept-met k t since until = seen t ∙ ap accepted (k t since until)
@@ -61,10 +67,10 @@ module _ (task : Task) (w : WordLists) {left : Areas} (h : After task w left) wh
     met-kept m t since until = accepted-same (sym (seen t) ∙ m t since until)
 
     kept-machine : MetBy (LevelAt times levels) e → MetByMachine task w e
-    kept-machine k t since until = sym (agreement .level-is-machine (circuitIn task) (stimuliIn task w (e .lane)) (e .net .0) t) ∙ k t since until
+    kept-machine k t since until = sym (lane-level (circuitIn task) (momentsIn task) w (e .lane) (e .net .0) ordered t) ∙ k t since until
 
     machine-kept : MetByMachine task w e → MetBy (LevelAt times levels) e
-    machine-kept m t since until = agreement .level-is-machine (circuitIn task) (stimuliIn task w (e .lane)) (e .net .0) t ∙ m t since until
+    machine-kept m t since until = lane-level (circuitIn task) (momentsIn task) w (e .lane) (e .net .0) ordered t ∙ m t since until
 
     broken-unmet : (k : ℕ) → UnmetBy (LevelAt times levels) times e k → UnmetBy (LevelMet left) (timesOf left) e k
     broken-unmet k b =

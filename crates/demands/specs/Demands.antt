@@ -11,6 +11,7 @@ use Rattle.lists.specs.Ladder.{accepted}
 use Rattle.lists.specs.Areas.{padded}
 use Rattle.lists.specs.Outcome.{outcome}
 use Rattle.lists.specs.Every.{Every}
+use Rattle.method.specs.Stimulus.{Ordered}
 use Rattle.method.specs.Times.{among}
 use Rattle.method.specs.Look.{changes}
 use Rattle.method.specs.Words.{lanes, lane}
@@ -20,7 +21,7 @@ use Rattle.method.specs.Lanes.{AgreeIn}
 use Rattle.method.specs.WordLists.{WordLists, lengthsOf}
 use Rattle.circuit.specs.File.{circuitOf}
 use Rattle.circuit.specs.Questions as circuit
-use Rattle.circuit.specs.Task.{Task, circuitIn, netsIn, framesIn, potentialIn, laneValues, machineIn, allPackedIn}
+use Rattle.circuit.specs.Task.{Task, circuitIn, momentsIn, netsIn, framesIn, potentialIn, laneValues, machineIn, allPackedIn}
 use Rattle.method.specs.declared.Totals.{Totals}
 use Rattle.method.specs.Areas.{Areas as PlanAreas, allCleared as planCleared}
 use Rattle.method.specs.Layout.{laid}
@@ -77,6 +78,9 @@ pub record Demand2Method : Type 0 where
   pub plan-read : (task : Task) (entry left : PlanAreas) (totals : Totals)
       → outcome (accepted totals) left ≡ planOf task entry → circuit.readOf (task .file) ≡ accepted (circuit.inputsAndGatesOf (task .file))
   pub run-read : (task : Task) (w : WordLists) (left : Areas) → Ran task w left → circuit.readOf (task .file) ≡ accepted (circuit.inputsAndGatesOf (task .file))
+  -- with change times that strictly rise, from above 0
+  pub plan-ordered : (task : Task) (entry left : PlanAreas) (totals : Totals) → outcome (accepted totals) left ≡ planOf task entry → Ordered (momentsIn task)
+  pub run-ordered : (task : Task) (w : WordLists) (left : Areas) → Ran task w left → Ordered (momentsIn task)
   -- what they leave in the areas, each area at its own length
   pub plan : (task : Task) (entry left : PlanAreas) (totals : Totals)
       → outcome (accepted totals) left ≡ planOf task entry → HoldsPlan task left
@@ -144,7 +148,9 @@ pub record TwoRuns (L : ℕ) (task : Task) (w : WordLists) (left : Areas) (task�
   pub ran : Ran task w left
   pub ran′ : Ran task′ w′ left′
   pub one-circuit : circuitIn task ≡ circuitIn task′
-  pub words-agree : AgreeIn L (circuitIn task .inputs) w w′
+  -- request P5 adds: with equal change times; and each before word and each after word counts
+  pub one-schedule : task .schedule ≡ task′ .schedule
+  pub words-agree : AgreeIn L (circuitIn task .inputs) (length (task .schedule .times)) w w′
 
 -- "are alike in that lane: the same level on every net at every time from 0 to 65,535, the same transition count of every net,
 -- and the same marking." A marking is Mark's answer for a list that passes question 12 and whose records all name that lane;

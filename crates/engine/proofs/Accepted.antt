@@ -1,7 +1,7 @@
 -- What an accepted run says: every question was answered yes, so the areas hold the plan, at their own lengths, and the
 -- packed values.
 -- Assumes nothing.
-use Prim.Native.Nat.{_≤_}
+use Prim.Native.Nat.{ℕ, _≤_}
 use mathlib.Core.Path.{_≡_, refl, sym, ap, ap₂, _∙_}
 use mathlib.Core.Bool.{true}
 use mathlib.Core.List.{[]}
@@ -18,9 +18,14 @@ use Rattle.lists.proofs.Leaving.{left-none, accepted-left}
 use Rattle.method.specs.WordLists.{WordLists, Lengths, lengthsOf}
 use Rattle.circuit.specs.File.{inputsOf, gatesOf}
 use Rattle.circuit.specs.Questions as reader
-use Rattle.circuit.specs.Task.{Task, circuitIn, framesIn, allPackedIn}
+use Rattle.circuit.specs.Task.{Task, circuitIn, momentsIn, framesIn, allPackedIn}
+use Rattle.method.specs.Changes.{changesSuit}
 use Rattle.method.specs.Layout.{laid}
 use Rattle.method.specs.Sums.{fits, totalsOf}
+use Rattle.method.specs.Packed.{changesBefore}
+use Rattle.method.specs.Lanes.{AgreeIn}
+use Rattle.method.proofs.Changes.{suited}
+use Rattle.circuit.proofs.Parts.{circuit-inputs}
 use Rattle.method.proofs.Fitting.{fits-total}
 use Rattle.method.proofs.Parts.{all-words}
 use Rattle.planner.specs.Questions as planner
@@ -50,9 +55,11 @@ module _ (task : Task) (l : Lengths) (a : Areas) (e : firstNo (questions task l 
 
 -- ---- what it leaves
 
--- the areas hold the plan and the packed values of an accepted file, at their own lengths, which are those of question 10
+-- the areas hold the plan and the packed values of an accepted file with change times that suit it, at their own lengths, which
+-- are those of question 10
 pub record Held (task : Task) (w : WordLists) (a : Areas) : Type 0 where
   pub read : reader.readOf (task .file) ≡ accepted (record { inputs = inputsOf (task .file); gates = gatesOf (task .file) })
+  pub timed : changesSuit (inputsOf (task .file)) (task .schedule) ≡ true
   pub fit : fits (framesIn task) ≡ true
   pub plan-is : a .plan ≡ laid (framesIn task) (a .plan)
   pub values-are : a .values ≡ padded (length (a .values)) (allPackedIn task w)
@@ -96,12 +103,22 @@ module _ (task : Task) (w : WordLists) {a : Areas} (r : LeftByRun task w a) wher
       let plan = ap (λ (x : Areas). x .plan) left-filled ∙ filled-plan task w (r .entry) in
       let values = ap (λ (x : Areas). x .values) left-filled ∙ filled-values task w (r .entry) in
       let room : length (allPackedIn task w) ≤ length (r .entry .values) =
-      omega (arith, all-words (circuitIn task) w, fits-total (framesIn task) fit, yes .values) in
+      omega (arith, all-words (circuitIn task) (momentsIn task) w, fits-total (framesIn task) fit, yes .values) in
       let same : length (a .values) ≡ valuesLength = ap length values ∙ pad-length _ _ room ∙ yes .values in
       record {
         read = read;
+        timed = yes .timed;
         fit = fit;
-        plan-is = plan-kept task read (r .entry .plan) (yes .suits) fit plan;
+        plan-is = plan-kept task read (r .entry .plan) (yes .suits) (yes .timed) fit plan;
         values-are = pad-kept (length (r .entry .values)) (allPackedIn task w) values room;
-        suits = and-both _ _ (plan-lengths task read (r .entry .plan) (yes .suits) fit plan) (eq-eqb _ _ same);
+        suits = and-both _ _ (plan-lengths task read (r .entry .plan) (yes .suits) (yes .timed) fit plan) (eq-eqb _ _ same);
       }
+
+-- there are as many after words as changes, so words that agree do so at each change
+pub agree-all : (task : Task) (w w′ : WordLists) (L : ℕ) {a : Areas} → Held task w a → AgreeIn L (circuitIn task .inputs) (length (task .schedule .times)) w w′
+    → AgreeIn L (circuitIn task .inputs) (changesBefore (momentsIn task) (circuitIn task .inputs)) w w′
+agree-all task w w′ L b p =
+    let s = suited (inputsOf (task .file)) (task .schedule) (b .timed) in
+    let q : changesBefore (momentsIn task) (circuitIn task .inputs) ≡ length (task .schedule .times) =
+    rw (circuit-inputs (task .file)) (s .starts (inputsOf (task .file)) (omega arith) ∙ s .total) in
+    rw q p

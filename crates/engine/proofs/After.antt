@@ -1,7 +1,7 @@
 -- What holds of the areas that an accepted Run leaves, since they hold the plan and the packed values: `specs/After`, proved.
 -- Assumes nothing.
 use Prim.Native.Nat.{ℕ, suc, _+_, _≤_, _<_}
-use mathlib.Core.Path.{_≡_, refl, sym, ap, _∙_}
+use mathlib.Core.Path.{_≡_, refl, sym, ap, ap₂, _∙_}
 use mathlib.Core.Logic.{_≢_}
 use mathlib.Core.Bool.{Bool, true}
 use mathlib.Core.List.{List, map}
@@ -12,22 +12,25 @@ use Rattle.lists.specs.Outcome.{leftBy}
 use Rattle.lists.proofs.Ladders.{unless-none}
 use Rattle.lists.proofs.Leaving.{left-part}
 use Rattle.method.specs.Circuit.{Circuit}
+use Rattle.method.specs.Stimulus.{Moments, Ordered}
+use Rattle.method.specs.Changes.{Schedule, momentsFrom}
 use Rattle.method.specs.Times.{among, startAndRise}
 use Rattle.method.specs.Frames.{frames, framesAt}
 use Rattle.method.specs.Traces.{traceAt}
 use Rattle.method.specs.Machine.{machine}
 use Rattle.method.specs.Look.{changes}
 use Rattle.method.specs.Words.{lanes, lane}
-use Rattle.method.specs.Packed.{laneOf, packedValues}
-use Rattle.method.specs.Agreement.{levelAt, changedTimes}
+use Rattle.method.specs.Packed.{changesBefore, laneOf, packedValues}
+use Rattle.method.specs.Agreement.{changedTimes}
 use Rattle.method.specs.Lanes.{laneLevel, laneCount, AgreeIn}
 use Rattle.method.proofs.Rising.{Starts, test-starts}
+use Rattle.method.proofs.Changes.{Suited, suited}
 use Rattle.method.proofs.Netwise.{net-by-net}
 use Rattle.method.proofs.Agreement.{agreement}
 use Rattle.method.proofs.Lanes.{in-lanes, same-bits}
 use Rattle.method.specs.WordLists.{WordLists, lengthsOf}
 use Rattle.circuit.specs.File.{inputsOf}
-use Rattle.circuit.specs.Task.{Task, circuitIn, netsIn, framesIn}
+use Rattle.circuit.specs.Task.{Task, circuitIn, momentsIn, netsIn, framesIn}
 use Rattle.circuit.proofs.Bounded.{time-small}
 use Rattle.method.specs.Limits.{mostNetFrames, mostTotalFrames}
 use Rattle.method.specs.Areas as areas
@@ -44,7 +47,7 @@ use Rattle.engine.specs.After.{LeftByRun, SightHolds, NetParts, After, A
 use Rattle.looks.proofs.Seeing.{all-yes}
 use Rattle.looks.proofs.Holding.{own-sight, holds}
 use Rattle.engine.proofs.Answering.{plan-first}
-use Rattle.engine.proofs.Accepted.{Held, held, filled-plan}
+use Rattle.engine.proofs.Accepted.{Held, held, filled-plan, agree-all}
 use Rattle.method.proofs.Parts.{nets-count, word-each, words-part}
 use Rattle.circuit.proofs.Parts.{circuit-within}
 
@@ -68,26 +71,35 @@ module _ (task : Task) (w : WordLists) {a : Areas} (b : Held task w a) (n : ℕ)
   abbrev c : Circuit
   c = circuitIn task
 
-  there : n < length (frames c)
-  there = rw (nets-count c) h
+  abbrev m : Moments
+  m = momentsIn task
 
-  pub frames-some : 1 ≤ length (framesAt c n .times)
-  frames-some = omega (arith, net-by-net c .0 .index-within 0 n 0)
+  changes-are-timed : Suited (inputsOf (task .file)) (task .schedule)
+  changes-are-timed = suited (inputsOf (task .file)) (task .schedule) (b .timed)
 
-  pub frames-few : length (framesAt c n .times) ≤ mostNetFrames
-  frames-few = fits-net (frames c) (b .fit) n
+  ordered : Ordered m
+  ordered = changes-are-timed .ordered
 
-  count-is : frameCount (a .plan .directory) n ≡ length (framesAt c n .times)
-  count-is = pair-count (frames c) (b .plan-is) n there
+  there : n < length (frames c m)
+  there = rw (nets-count c m) h
 
-  pub times-are : timesOf a n ≡ framesAt c n .times
-  times-are = times-part (frames c) (b .plan-is) n there
+  pub frames-some : 1 ≤ length (framesAt c m n .times)
+  frames-some = omega (arith, net-by-net c .0 .index-within m ordered 0 n 0)
 
-  pub values-are : valuesOf a n ≡ packedValues c w n
-  values-are = words-part c w (b .plan-is) n (length (a .values)) h (b .values-are)
+  pub frames-few : length (framesAt c m n .times) ≤ mostNetFrames
+  frames-few = fits-net (frames c m) (b .fit) n
+
+  count-is : frameCount (a .plan .directory) n ≡ length (framesAt c m n .times)
+  count-is = pair-count (frames c m) (b .plan-is) n there
+
+  pub times-are : timesOf a n ≡ framesAt c m n .times
+  times-are = times-part (frames c m) (b .plan-is) n there
+
+  pub values-are : valuesOf a n ≡ packedValues c m w n
+  values-are = words-part c m w (b .plan-is) n (length (a .values)) h (b .values-are)
 
   inside : firstFrame (a .plan .directory) n + frameCount (a .plan .directory) n ≤ mostTotalFrames
-  inside = omega (arith, pair-first (frames c) (b .plan-is) n there, count-is, frames-end (frames c) n there, fits-total (frames c) (b .fit))
+  inside = omega (arith, pair-first (frames c m) (b .plan-is) n there, count-is, frames-end (frames c m) n there, fits-total (frames c m) (b .fit))
 
   net-parts : NetParts a n
   net-parts = record { some-frame = rw count-is frames-some; few-frames = rw count-is frames-few; inside = inside }
@@ -95,59 +107,55 @@ module _ (task : Task) (w : WordLists) {a : Areas} (b : Held task w a) (n : ℕ)
   module _ (L : ℕ) (l : L < lanes) where
     -- the lane's bits of the net's words
     abbrev bits : List Bool
-    bits = map (lane L) (packedValues c w n)
+    bits = map (lane L) (packedValues c m w n)
 
-    sight-lane : (t : ℕ) → sightIn a n L t ≡ accepted (sight (framesAt c n .times) bits t)
+    sight-lane : (t : ℕ) → sightIn a n L t ≡ accepted (sight (framesAt c m n .times) bits t)
     sight-lane t =
         rw (times-are, values-are)
-        (sight-answered (framesAt c n .times) (packedValues c w n) L (sym (word-each c w n)) frames-some frames-few (agreement .times-rise c n) l t)
+        (sight-answered (framesAt c m n .times) (packedValues c m w n) L (sym (word-each c m w n)) frames-some frames-few (agreement .times-rise c m ordered n) l t)
 
-    level-lane : (t : ℕ) → levelIn a n L t ≡ accepted (laneLevel L c w n t)
+    level-lane : (t : ℕ) → levelIn a n L t ≡ accepted (laneLevel L c m w n t)
     unfolding sight sightAt
     level-lane t = ap levelPart (sight-lane t)
 
-    starts : Starts (framesAt c n .times)
-    starts = test-starts (framesAt c n .times) (agreement .times-rise c n)
+    starts : Starts (framesAt c m n .times)
+    starts = test-starts (framesAt c m n .times) (agreement .times-rise c m ordered n)
 
     sight-holds : (t : ℕ) → SightHolds task w a n L t
     sight-holds t =
         record {
-          seen = sight (framesAt c n .times) bits t;
+          seen = sight (framesAt c m n .times) bits t;
           answers = sight-lane t;
-          holds = holds (framesAt c n .times) starts bits (machine c (laneOf L w) n) (in-lanes .level-is-machine c w L l n) t;
+          holds = holds (framesAt c m n .times) starts bits (machine c (laneOf L m w) n) (in-lanes .level-is-machine c m ordered w L l n) t;
         }
 
     frame-is : (k : ℕ) → k < frameCount (a .plan .directory) n → sightIn a n L (getD (timesOf a n) k 0) ≡ accepted (frameIn a n L k)
-    frame-is k m = sight-lane (getD (timesOf a n) k 0) ∙ rw (times-are, values-are) (ap accepted (own-sight (framesAt c n .times) starts bits k (omega (arith, m, count-is))))
+    frame-is k l′ = sight-lane (getD (timesOf a n) k 0) ∙ rw (times-are, values-are) (ap accepted (own-sight (framesAt c m n .times) starts bits k (omega (arith, l′, count-is))))
 
-    count-lane : countIn a n L ≡ accepted (laneCount L c w n)
+    count-lane : countIn a n L ≡ accepted (laneCount L c m w n)
     count-lane =
         rw (times-are, values-are)
-        (count-answered (framesAt c n .times) (packedValues c w n) L (sym (word-each c w n)) frames-some frames-few (agreement .times-rise c n) l)
+        (count-answered (framesAt c m n .times) (packedValues c m w n) L (sym (word-each c m w n)) frames-some frames-few (agreement .times-rise c m ordered n) l)
 
-    count-own : countIn a n L ≡ accepted (changes (traceAt c (laneOf L w) n .values))
-    count-own = count-lane ∙ ap (λ (vs : List Bool). accepted (changes vs)) (in-lanes .own-values c w L l n)
+    count-own : countIn a n L ≡ accepted (changes (traceAt c (laneOf L m w) n .values))
+    count-own = count-lane ∙ ap (λ (vs : List Bool). accepted (changes vs)) (in-lanes .own-values c m w L l n)
 
-    level-is : (t : ℕ) → levelIn a n L t ≡ accepted (machine c (laneOf L w) n t)
-    level-is t = level-lane t ∙ ap accepted (in-lanes .level-is-machine c w L l n t)
+    level-is : (t : ℕ) → levelIn a n L t ≡ accepted (machine c (laneOf L m w) n t)
+    level-is t = level-lane t ∙ ap accepted (in-lanes .level-is-machine c m ordered w L l n t)
 
-    changes-are : countIn a n L ≡ accepted (changedTimes (machine c (laneOf L w) n) lastTime)
+    changes-are : countIn a n L ≡ accepted (changedTimes (machine c (laneOf L m w) n) lastTime)
     changes-are =
         count-lane
-        ∙ ap accepted (in-lanes .count-is-machine c w L l n lastTime (λ t e. omega (arith, time-small c (circuit-within (task .file) (b .read)) n t h e)))
+        ∙ ap accepted (in-lanes .count-is-machine c m ordered w L l n lastTime (λ t e. omega (arith, time-small c (circuit-within (task .file) (b .read)) m (changes-are-timed .early) n t h e)))
 
-    -- levels that differ are levels of the lane's own run that differ
     only-at : (t : ℕ) → levelIn a n L (suc t) ≢ levelIn a n L t → among (suc t) (timesOf a n) ≡ true
-    only-at t d =
-        let s = laneOf L w in
-        let same : levelAt c s n (suc t) ≡ levelAt c s n t → machine c s n (suc t) ≡ machine c s n t =
-        λ e. sym (agreement .level-is-machine c s n (suc t)) ∙ e ∙ agreement .level-is-machine c s n t in
-        rw times-are (agreement .changes-at-times c s n t (λ e. d (level-is (suc t) ∙ ap accepted (same e) ∙ sym (level-is t))))
+    only-at t d = rw times-are (in-lanes .changes-at-times c m ordered w L l n t (λ e. d (level-lane (suc t) ∙ ap accepted e ∙ sym (level-lane t))))
 
 after-run : (task : Task) (w : WordLists) (a : Areas) → LeftByRun task w a → After task w a
 after-run task w a r =
     let b = held task w r in
     record {
+      changes-suit = b .timed;
       parts = net-parts task w b;
       count-is = count-is task w b;
       times-are = times-are task w b;
@@ -164,29 +172,32 @@ after-run task w a r =
 -- ---- two runs
 
 module _ (task task′ : Task) (w w′ : WordLists) {a a′ : Areas} (L : ℕ) (l : L < lanes) (b : Held task w a) (b′ : Held task′ w′ a′) (same : circuitIn task ≡ circuitIn task′)
-    (p : AgreeIn L (circuitIn task .inputs) w w′) (n : ℕ) (h : n < netsIn task) where
+    (one : task .schedule ≡ task′ .schedule) (p : AgreeIn L (circuitIn task .inputs) (length (task .schedule .times)) w w′) (n : ℕ) (h : n < netsIn task) where
+  abbrev agree : AgreeIn L (circuitIn task .inputs) (changesBefore (momentsIn task) (circuitIn task .inputs)) w w′
+  agree = agree-all task w w′ L b p
+
   same-sight : (t : ℕ) → sightIn a n L t ≡ sightIn a′ n L t
   same-sight t =
       sight-lane task w b n h L l t
-      ∙ ap (λ (levels : List Bool). accepted (sight (framesAt (circuitIn task) n .times) levels t)) (same-bits (circuitIn task) w w′ L p n l)
-      ∙ ap (λ (c : Circuit). accepted (sight (framesAt c n .times) (map (lane L) (packedValues c w′ n)) t)) same
+      ∙ ap (λ (levels : List Bool). accepted (sight (framesAt (circuitIn task) (momentsIn task) n .times) levels t)) (same-bits (circuitIn task) (momentsIn task) w w′ L agree n l)
+      ∙ ap₂ (λ (c : Circuit) (s : Schedule). accepted (sight (framesAt c (momentsFrom s) n .times) (map (lane L) (packedValues c (momentsFrom s) w′ n)) t)) same one
       ∙ sym (sight-lane task′ w′ b′ n (rw same at h) L l t)
 
   same-count : countIn a n L ≡ countIn a′ n L
   same-count =
       count-lane task w b n h L l
-      ∙ ap accepted (in-lanes .same-count (circuitIn task) w w′ L l p n)
-      ∙ ap (λ (c : Circuit). accepted (laneCount L c w′ n)) same
+      ∙ ap accepted (in-lanes .same-count (circuitIn task) (momentsIn task) w w′ L l agree n)
+      ∙ ap₂ (λ (c : Circuit) (s : Schedule). accepted (laneCount L c (momentsFrom s) w′ n)) same one
       ∙ sym (count-lane task′ w′ b′ n (rw same at h) L l)
 
 runs-alike : (task task′ : Task) (w w′ : WordLists) (a a′ : Areas) (L : ℕ) → L < lanes → LeftByRun task w a → LeftByRun task′ w′ a′ → circuitIn task ≡ circuitIn task′
-    → AgreeIn L (circuitIn task .inputs) w w′ → Alike task L a a′
-runs-alike task task′ w w′ a a′ L l r r′ same p =
-    let sights = same-sight task task′ w w′ L l (held task w r) (held task′ w′ r′) same p in
+    → task .schedule ≡ task′ .schedule → AgreeIn L (circuitIn task .inputs) (length (task .schedule .times)) w w′ → Alike task L a a′
+runs-alike task task′ w w′ a a′ L l r r′ same one p =
+    let sights = same-sight task task′ w w′ L l (held task w r) (held task′ w′ r′) same one p in
     record {
       same-sight = λ n t h. sights n h t;
       same-level = λ n t h. ap levelPart (sights n h t);
-      same-count = same-count task task′ w w′ L l (held task w r) (held task′ w′ r′) same p;
+      same-count = same-count task task′ w w′ L l (held task w r) (held task′ w′ r′) same one p;
     }
 
 -- ---- what the words do not enter
@@ -207,7 +218,7 @@ words-alike task w w′ a p =
     (rw p, plan-left _ task w a ∙ rw p (sym (plan-left _ task w′ a)))
 
 -- what Run shares with Plan
-plan-alike : (task : Task) (w : WordLists) (a : Areas) → length (a .values) ≡ valuesLength → wordsSuit (inputsOf (task .file)) (lengthsOf w) ≡ true
+plan-alike : (task : Task) (w : WordLists) (a : Areas) → length (a .values) ≡ valuesLength → wordsSuit (inputsOf (task .file)) (task .schedule) (lengthsOf w) ≡ true
     → (runOf task w a .answer ≡ planOf task (a .plan) .answer) × (runOf task w a .left .plan ≡ planOf task (a .plan) .left)
 unfolding runOf planOf
 plan-alike task w a v suits =

@@ -12,6 +12,7 @@ use Rattle.lists.specs.Outcome.{Outcome, outcome}
 use Rattle.lists.specs.Areas.{cleared, padded}
 use Rattle.lists.proofs.Ladders.{isNumber, numbered, leavesAlone, quiet, each-append, quiet-numbered, first, first-here, firstNo-append, ask-yes, ask-no, all-asked, unless-none, unless-some}
 use Rattle.lists.proofs.Leaving.{left-none, left-clear, left-quiet}
+use Rattle.method.specs.Changes.{changesSuit}
 use Rattle.method.specs.WordLists.{WordLists, Lengths, lengthsOf}
 use Rattle.circuit.specs.File.{inputsOf}
 use Rattle.circuit.specs.Questions as reader
@@ -35,10 +36,10 @@ use Rattle.engine.specs.Steps.{Asked}
 -- ---- the ladder
 
 module _ (task : Task) (l : Lengths) (a : Areas) where
-  -- none of 1 to 11 clears the areas
+  -- none of these clears the areas
   pub first-quiet : quiet (firstQuestions task l a) ≡ true
   unfolding firstQuestions
-  first-quiet = each-append leavesAlone (reader.questions (task .file)) (ownQuestions (inputsOf (task .file)) l a) (questions-quiet (task .file)) refl
+  first-quiet = each-append leavesAlone (reader.questions (task .file)) (ownQuestions (inputsOf (task .file)) (task .schedule) l a) (questions-quiet (task .file)) refl
 
   pub first-numbered : numbered (firstQuestions task l a) ≡ true
   first-numbered = quiet-numbered (firstQuestions task l a) first-quiet
@@ -57,13 +58,13 @@ unfolding firstNo
 own-alike true v w qs = rw (v, w)
 own-alike false v w qs = refl
 
-pub plan-first : (task : Task) (l : Lengths) (a : Areas) → length (a .values) ≡ valuesLength → wordsSuit (inputsOf (task .file)) l ≡ true
+pub plan-first : (task : Task) (l : Lengths) (a : Areas) → length (a .values) ≡ valuesLength → wordsSuit (inputsOf (task .file)) (task .schedule) l ≡ true
     → firstNo (questions task l a) ≡ firstNo (plan.questions task (a .plan))
 unfolding questions firstQuestions areasSuit plan.questions
 plan-first task l a v w =
-    ap firstNo (append-assoc (reader.questions (task .file)) (ownQuestions (inputsOf (task .file)) l a) (lastQuestion task))
+    ap firstNo (append-assoc (reader.questions (task .file)) (ownQuestions (inputsOf (task .file)) (task .schedule) l a) (lastQuestion task))
     ∙ firstNo-append (reader.questions (task .file)) _ (questions-numbered (task .file))
-    ∙ ap (first (firstNo (reader.questions (task .file)))) (own-alike (plan.areasSuit (a .plan)) (eq-eqb _ _ v) w (lastQuestion task))
+    ∙ ap (first (firstNo (reader.questions (task .file)))) (own-alike (plan.areasSuit (a .plan)) (eq-eqb _ _ v) w ((changesSuit (inputsOf (task .file)) (task .schedule) orElse 20) ∷ lastQuestion task))
     ∙ sym (firstNo-append (reader.questions (task .file)) (plan.ownQuestions task (a .plan)) (questions-numbered (task .file)))
 
 module _ (task : Task) (w : WordLists) (a : Areas) where
@@ -88,7 +89,7 @@ module _ (task : Task) (w : WordLists) (a : Areas) where
   unfolding onPaper
   refusal {n} e h l = sym (ran e ∙ rw (unless-some n (totalsOf (framesIn task)) h, ← l))
 
-  -- 1 to 11: nothing is written
+  -- all but 13: nothing is written
   pub run-no : {n : ℕ} → n ≡ firstNo (firstQuestions task (lengthsOf w) a) → (n ≡ 0 → ⊥) → outcome (onPaper (Q.Refused n)) a ≡ runOf task w a
   run-no {n} e h =
       refusal (joined task (lengthsOf w) a ∙ rw (← e) (first-here n _ h)) h

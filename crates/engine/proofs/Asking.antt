@@ -1,4 +1,4 @@
--- Questions 1 to 11, as they are asked, and what it says that all of them were answered yes.
+-- Questions 1 to 11 and 20, as they are asked, and what it says that all of them were answered yes.
 -- Assumes nothing.
 use Prim.Native.Nat.{ℕ}
 use mathlib.Core.Path.{_≡_, sym, ap, _∙_}
@@ -11,6 +11,7 @@ use borrow.Author.Tests.{eqb-true, eq-eqb, ne-eqb, not-true, not-false}
 use Rattle.lists.specs.Ladder.{_orElse_, firstNo, accepted, refused, unless}
 use Rattle.lists.proofs.Choices.{and-left, and-right}
 use Rattle.lists.proofs.Ladders.{first, first-here, first-none, firstNo-append, asked, ask-yes, ask-no, all-asked, accepted-none, refused-some, unless-none, unless-some}
+use Rattle.method.specs.Changes.{Schedule, changesSuit}
 use Rattle.method.specs.WordLists.{Lengths}
 use Rattle.circuit.specs.File.{inputsOf, gatesOf}
 use Rattle.circuit.specs.declared.Reading.{Reading}
@@ -25,42 +26,49 @@ use Rattle.engine.specs.Questions.{valuesLength, areasSuit, wordsSuit, o
 use Rattle.engine.specs.Steps.{Asked}
 use Rattle.circuit.proofs.Parts.{inputs-are, gates-are, reading-accepted}
 
--- ---- questions 10 and 11
+-- ---- questions 10, 11 and 20
 
-module _ (inputs : ℕ) (l : Lengths) (d t i f v : List ℕ) {ok : Bool} (is : ok ≡ plan.areasSuit (planner.areas d t i f)) where
-  pub plan-no : not ok ≡ true → 10 ≡ firstNo (ownQuestions inputs l (areas d t i f v))
+module _ (inputs : ℕ) (h : Schedule) (l : Lengths) (d t i f v : List ℕ) {ok : Bool} (is : ok ≡ plan.areasSuit (planner.areas d t i f)) where
+  pub plan-no : not ok ≡ true → 10 ≡ firstNo (ownQuestions inputs h l (areas d t i f v))
   unfolding areasSuit
   plan-no n = sym (ask-no (areasSuit (areas d t i f v)) 10 _ (rw (← is, not-true ok n)))
 
   module _ (y1 : not ok ≡ false) where
-    pub values-no : (length v ≡ valuesLength → ⊥) → 10 ≡ firstNo (ownQuestions inputs l (areas d t i f v))
+    pub values-no : (length v ≡ valuesLength → ⊥) → 10 ≡ firstNo (ownQuestions inputs h l (areas d t i f v))
     unfolding areasSuit
     values-no n = sym (ask-no (areasSuit (areas d t i f v)) 10 _ (rw (← is, not-false ok y1, ne-eqb _ _ n)))
 
     module _ (y2 : length v ≡ valuesLength) where
-      past-10 : firstNo (ownQuestions inputs l (areas d t i f v)) ≡ firstNo ((wordsSuit inputs l orElse 11) ∷ [])
+      past-10 : firstNo (ownQuestions inputs h l (areas d t i f v)) ≡ firstNo ((wordsSuit inputs h l orElse 11) ∷ (changesSuit inputs h orElse 20) ∷ [])
       unfolding areasSuit
       past-10 = ask-yes (areasSuit (areas d t i f v)) 10 _ (rw (← is, not-false ok y1, eq-eqb _ _ y2))
 
-      pub before-no : (l .before ≡ inputs → ⊥) → 11 ≡ firstNo (ownQuestions inputs l (areas d t i f v))
+      pub before-no : (l .before ≡ inputs → ⊥) → 11 ≡ firstNo (ownQuestions inputs h l (areas d t i f v))
       unfolding wordsSuit
-      before-no n = sym (past-10 ∙ ask-no (wordsSuit inputs l) 11 [] (rw (ne-eqb _ _ n)))
+      before-no n = sym (past-10 ∙ ask-no (wordsSuit inputs h l) 11 _ (rw (ne-eqb _ _ n)))
 
       module _ (y3 : l .before ≡ inputs) where
-        pub after-no : (l .after ≡ inputs → ⊥) → 11 ≡ firstNo (ownQuestions inputs l (areas d t i f v))
+        pub after-no : (l .after ≡ length (h .times) → ⊥) → 11 ≡ firstNo (ownQuestions inputs h l (areas d t i f v))
         unfolding wordsSuit
-        after-no n = sym (past-10 ∙ ask-no (wordsSuit inputs l) 11 [] (rw (eq-eqb _ _ y3, ne-eqb _ _ n)))
+        after-no n = sym (past-10 ∙ ask-no (wordsSuit inputs h l) 11 _ (rw (eq-eqb _ _ y3, ne-eqb _ _ n)))
 
-        pub none-11 : l .after ≡ inputs → 0 ≡ firstNo (ownQuestions inputs l (areas d t i f v))
-        unfolding wordsSuit
-        none-11 y = sym (past-10 ∙ ask-yes (wordsSuit inputs l) 11 [] (rw (eq-eqb _ _ y3, eq-eqb _ _ y)) ∙ all-asked)
+        module _ (y4 : l .after ≡ length (h .times)) {on : Bool} (at : on ≡ changesSuit inputs h) where
+          past-11 : firstNo (ownQuestions inputs h l (areas d t i f v)) ≡ firstNo ((changesSuit inputs h orElse 20) ∷ [])
+          unfolding wordsSuit
+          past-11 = past-10 ∙ ask-yes (wordsSuit inputs h l) 11 _ (rw (eq-eqb _ _ y3, eq-eqb _ _ y4))
 
--- ---- questions 1 to 11, as `questions` answers them
+          pub changes-no : not on ≡ true → 20 ≡ firstNo (ownQuestions inputs h l (areas d t i f v))
+          changes-no n = sym (past-11 ∙ ask-no (changesSuit inputs h) 20 [] (sym at ∙ not-true on n))
+
+          pub none-20 : not on ≡ false → 0 ≡ firstNo (ownQuestions inputs h l (areas d t i f v))
+          none-20 y = sym (past-11 ∙ ask-yes (changesSuit inputs h) 20 [] (sym at ∙ not-false on y) ∙ all-asked)
+
+-- ---- questions 1 to 11 and 20, as `questions` answers them
 
 module _ (task : Task) (l : Lengths) (a : Areas) where
-  joined : firstNo (firstQuestions task l a) ≡ first (firstNo (reader.questions (task .file))) (firstNo (ownQuestions (inputsOf (task .file)) l a))
+  joined : firstNo (firstQuestions task l a) ≡ first (firstNo (reader.questions (task .file))) (firstNo (ownQuestions (inputsOf (task .file)) (task .schedule) l a))
   unfolding firstQuestions
-  joined = firstNo-append (reader.questions (task .file)) (ownQuestions (inputsOf (task .file)) l a) (questions-numbered (task .file))
+  joined = firstNo-append (reader.questions (task .file)) (ownQuestions (inputsOf (task .file)) (task .schedule) l a) (questions-numbered (task .file))
 
   refusal : {n : ℕ} → n ≡ firstNo (firstQuestions task l a) → (n ≡ 0 → ⊥) → reader.onPaper (R.Refused n) ≡ questionsOf task l a
   unfolding questionsOf reader.onPaper
@@ -75,7 +83,7 @@ module _ (task : Task) (l : Lengths) (a : Areas) where
         let some : n ≡ 0 → ⊥ = λ z. omega (arith, q .1) in
         refusal (sym (joined ∙ rw (q .0) (first-here n _ some))) some
 
-    module _ {inputs gates : ℕ} (e : r ≡ R.Accepted inputs gates) {n : ℕ} (is : n ≡ firstNo (ownQuestions inputs l a)) where
+    module _ {inputs gates : ℕ} (e : r ≡ R.Accepted inputs gates) {n : ℕ} (is : n ≡ firstNo (ownQuestions inputs (task .schedule) l a)) where
       answered : reader.readOf (task .file) ≡ accepted (record { inputs = inputs; gates = gates })
       answered = reading-accepted (task .file) f e
 
@@ -124,24 +132,26 @@ pub record Passed (task : Task) (l : Lengths) (a : Areas) : Type 0 where
   pub suits : plan.areasSuit (a .plan) ≡ true
   pub values : length (a .values) ≡ valuesLength
   pub before-each : l .before ≡ inputsOf (task .file)
-  pub after-each : l .after ≡ inputsOf (task .file)
+  pub after-each : l .after ≡ length (task .schedule .times)
+  pub timed : changesSuit (inputsOf (task .file)) (task .schedule) ≡ true
 
 areas-pass : (a : Areas) → areasSuit a ≡ true → (plan.areasSuit (a .plan) ≡ true) × (length (a .values) ≡ valuesLength)
 unfolding areasSuit
 areas-pass a e = (and-left (plan.areasSuit (a .plan)) _ e, eqb-true _ _ (and-right (plan.areasSuit (a .plan)) _ e))
 
-words-pass : (inputs : ℕ) (l : Lengths) → wordsSuit inputs l ≡ true → (l .before ≡ inputs) × (l .after ≡ inputs)
+words-pass : (inputs : ℕ) (h : Schedule) (l : Lengths) → wordsSuit inputs h l ≡ true → (l .before ≡ inputs) × (l .after ≡ length (h .times))
 unfolding wordsSuit
-words-pass inputs l e = (eqb-true _ _ (and-left (eqb (l .before) inputs) _ e), eqb-true _ _ (and-right (eqb (l .before) inputs) _ e))
+words-pass inputs h l e = (eqb-true _ _ (and-left (eqb (l .before) inputs) _ e), eqb-true _ _ (and-right (eqb (l .before) inputs) _ e))
 
 pub passed : (task : Task) (l : Lengths) (a : Areas) → firstNo (firstQuestions task l a) ≡ 0 → Passed task l a
 passed task l a h =
-    let q = first-none (firstNo (reader.questions (task .file))) (firstNo (ownQuestions (inputsOf (task .file)) l a)) (sym (joined task l a) ∙ h) in
+    let q = first-none (firstNo (reader.questions (task .file))) (firstNo (ownQuestions (inputsOf (task .file)) (task .schedule) l a)) (sym (joined task l a) ∙ h) in
     let s = asked (areasSuit a) 10 _ (λ z. omega arith) (q .1) in
-    let w = asked (wordsSuit (inputsOf (task .file)) l) 11 [] (λ z. omega arith) (s .1) in
+    let w = asked (wordsSuit (inputsOf (task .file)) (task .schedule) l) 11 _ (λ z. omega arith) (s .1) in
+    let t = asked (changesSuit (inputsOf (task .file)) (task .schedule)) 20 [] (λ z. omega arith) (w .1) in
     let x = areas-pass a (s .0) in
-    let y = words-pass (inputsOf (task .file)) l (w .0) in
-    record { reads = q .0; suits = x .0; values = x .1; before-each = y .0; after-each = y .1 }
+    let y = words-pass (inputsOf (task .file)) (task .schedule) l (w .0) in
+    record { reads = q .0; suits = x .0; values = x .1; before-each = y .0; after-each = y .1; timed = t .0 }
 
 -- so a run may follow
 pub asked-yes : (task : Task) (l : Lengths) (a : Areas) {r : Reading} → reader.onPaper r ≡ questionsOf task l a → {inputs gates : ℕ} → r ≡ R.Accepted inputs gates
@@ -154,7 +164,6 @@ asked-yes task l a f e =
 -- of the areas only the lengths are asked about: others that suit pass with the same file and lists
 pub passed-again : (task : Task) (l : Lengths) (a a′ : Areas) → firstNo (firstQuestions task l a) ≡ 0 → areasSuit a′ ≡ true → firstNo (firstQuestions task l a′) ≡ 0
 passed-again task l a a′ h y =
-    let q = first-none (firstNo (reader.questions (task .file))) (firstNo (ownQuestions (inputsOf (task .file)) l a)) (sym (joined task l a) ∙ h) in
+    let q = first-none (firstNo (reader.questions (task .file))) (firstNo (ownQuestions (inputsOf (task .file)) (task .schedule) l a)) (sym (joined task l a) ∙ h) in
     let s = asked (areasSuit a) 10 _ (λ z. omega arith) (q .1) in
-    let w = asked (wordsSuit (inputsOf (task .file)) l) 11 [] (λ z. omega arith) (s .1) in
-    joined task l a′ ∙ rw (q .0) (ask-yes (areasSuit a′) 10 _ y ∙ ask-yes (wordsSuit (inputsOf (task .file)) l) 11 [] (w .0) ∙ all-asked)
+    joined task l a′ ∙ rw (q .0) (ask-yes (areasSuit a′) 10 _ y ∙ s .1)

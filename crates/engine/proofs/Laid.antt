@@ -1,12 +1,11 @@
--- What filling the areas asks and leaves once questions 1 to 11 are passed: there is room, and the frames fit or do not.
+-- What filling the areas asks and leaves once all questions but 13 are passed: there is room, and the frames fit or do not.
 -- Assumes nothing.
 use Prim.Native.Nat.{ℕ}
-use mathlib.Core.Path.{_≡_, sym, _∙_}
+use mathlib.Core.Path.{_≡_, _∙_}
 use mathlib.Core.List.{List}
 use native.Mathlib.Omega.{arith}
 use lib.ListN.{length}
 use Rattle.method.specs.WordLists.{Lengths}
-use Rattle.circuit.proofs.Parts.{few}
 use Rattle.method.specs.declared.Totals.{Totals}
 use Rattle.circuit.specs.Task.{Task, framesIn}
 use Rattle.layout.specs.declared.Progress.{Progress}
@@ -24,7 +23,7 @@ use Rattle.engine.proofs.Asking.{passed}
 
 module _ (task : Task) {l : Lengths} {a : engine.Areas} (h : Asked task l a) where
   pub given : Given task (a .plan)
-  given = given-all task (a .plan) (h .read) (passed task l a (h .none) .suits)
+  given = given-all task (a .plan) (h .read) (passed task l a (h .none) .suits) (passed task l a (h .none) .timed)
 
   module _ {d t i f : List ℕ} {r : Progress} (e : Filled task (a .plan) (areas d t i f) r) {totals : Totals} (q : r ≡ P.Planned totals) where
     plan-frames : totals .frames ≡ length (allTimes (framesIn task))
@@ -35,9 +34,10 @@ module _ (task : Task) {l : Lengths} {a : engine.Areas} (h : Asked task l a) whe
     pub planned : length d ≡ length (a .plan .directory) → length t ≡ length (a .plan .times) → length i ≡ length (a .plan .inertial) → length f ≡ length (a .plan .fanins) → Planned task d i f
     unfolding laid
     planned ld lt li lf =
-        let room = plan-room task (a .plan) (h .read) (passed task l a (h .none) .suits) (e .fit totals q) in
+        let room = plan-room task (a .plan) (h .read) (passed task l a (h .none) .suits) (passed task l a (h .none) .timed) (e .fit totals q) in
         record {
           read = h .read;
+          suits = passed task l a (h .none) .timed;
           times = t;
           is = e .filled totals q ∙ rw (ld, lt, li, lf);
           pairs = omega (arith, ld, room .directory);
@@ -51,8 +51,7 @@ module _ (task : Task) {l : Lengths} {a : engine.Areas} (h : Asked task l a) whe
         let y = passed task l a (h .none) in
         record {
           before-each = y .before-each;
-          after-each = y .after-each ∙ sym (y .before-each);
-          room = omega (arith, few (task .file) (h .read) .1, y .before-each, y .values);
+          after-each = y .after-each;
           words = record { words = omega (arith, fits-total (framesIn task) (e .fit totals q), y .values) };
           total-is = plan-frames;
         }

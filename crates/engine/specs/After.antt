@@ -13,6 +13,7 @@ use Rattle.method.specs.Look.{changes}
 use Rattle.method.specs.Words.{lanes, lane}
 use Rattle.method.specs.Agreement.{changedTimes}
 use Rattle.method.specs.Lanes.{AgreeIn}
+use Rattle.method.specs.Changes.{changesSuit}
 use Rattle.method.specs.WordLists.{WordLists, lengthsOf}
 use Rattle.circuit.specs.File.{inputsOf}
 use Rattle.circuit.specs.Task.{Task, circuitIn, netsIn, timesIn, potentialIn, laneValues, machineIn, packedIn}
@@ -73,12 +74,14 @@ pub record NetParts (a : Areas) (n : ℕ) : Type 0 where
   pub inside : firstFrame (a .plan .directory) n + frameCount (a .plan .directory) n ≤ mostTotalFrames
 
 pub record After (task : Task) (w : WordLists) (a : Areas) : Type 0 where
+  -- the change times are such as question 20 lets pass
+  pub changes-suit : changesSuit (inputsOf (task .file)) (task .schedule) ≡ true
   -- net n's pair in the directory counts its frames, and its parts are their times and its packed values
   pub parts : (n : ℕ) → n < netsIn task → NetParts a n
   pub count-is : (n : ℕ) → n < netsIn task → frameCount (a .plan .directory) n ≡ length (timesIn task n)
   pub times-are : (n : ℕ) → n < netsIn task → timesOf a n ≡ timesIn task n
   pub values-are : (n : ℕ) → n < netsIn task → valuesOf a n ≡ packedIn task w n
-  -- Level answers on these parts, and what it answers is the machine's level, run for the lane's pattern pair by itself; at
+  -- Level answers on these parts, and what it answers is the machine's level, run for the lane's stimuli by themselves; at
   -- every time t, so at those from 0 to 65,535
   pub level-is-machine : (n L t : ℕ) → n < netsIn task → L < lanes → levelIn a n L t ≡ accepted (machineIn task w L n t)
   -- and holds from the begin of the frame that Level names to its end
@@ -96,8 +99,8 @@ pub record After (task : Task) (w : WordLists) (a : Areas) : Type 0 where
   -- and these entries are the net's potential times
   pub times-are-potential : (n t : ℕ) → n < netsIn task → among t (timesOf a n) ≡ potentialIn task n t
 
--- two accepted Runs of this task's circuit whose words agree in lane L, whatever the other lanes hold and whatever stood in
--- the areas
+-- two accepted Runs of this task's circuit with its change times whose words agree in lane L, whatever the other lanes hold and
+-- whatever stood in the areas
 pub record Alike (task : Task) (L : ℕ) (a a′ : Areas) : Type 0 where
   pub same-sight : (n t : ℕ) → n < netsIn task → sightIn a n L t ≡ sightIn a′ n L t
   pub same-level : (n t : ℕ) → n < netsIn task → levelIn a n L t ≡ levelIn a′ n L t
@@ -106,13 +109,13 @@ pub record Alike (task : Task) (L : ℕ) (a a′ : Areas) : Type 0 where
 pub record AfterRun : Type 0 where
   pub after-run : (task : Task) (w : WordLists) (a : Areas) → LeftByRun task w a → After task w a
   pub runs-alike : (task task′ : Task) (w w′ : WordLists) (a a′ : Areas) (L : ℕ) → L < lanes
-      → LeftByRun task w a → LeftByRun task′ w′ a′ → circuitIn task ≡ circuitIn task′
-      → AgreeIn L (circuitIn task .inputs) w w′ → Alike task L a a′
+      → LeftByRun task w a → LeftByRun task′ w′ a′ → circuitIn task ≡ circuitIn task′ → task .schedule ≡ task′ .schedule
+      → AgreeIn L (circuitIn task .inputs) (length (task .schedule .times)) w w′ → Alike task L a a′
   -- no pattern bit enters a number, a plan area or the totals: word lists of equal lengths give the same answer and the
   -- same four plan areas
   pub words-alike : (task : Task) (w w′ : WordLists) (a : Areas) → lengthsOf w ≡ lengthsOf w′
       → (runOf task w a .answer ≡ runOf task w′ a .answer) × (runOf task w a .left .plan ≡ runOf task w′ a .left .plan)
   -- Run's totals and plan areas are Plan's: where the values and the word lists have their lengths, Run answers what Plan
   -- answers of this task and these four areas, and leaves in them what Plan leaves
-  pub plan-alike : (task : Task) (w : WordLists) (a : Areas) → length (a .values) ≡ valuesLength → wordsSuit (inputsOf (task .file)) (lengthsOf w) ≡ true
+  pub plan-alike : (task : Task) (w : WordLists) (a : Areas) → length (a .values) ≡ valuesLength → wordsSuit (inputsOf (task .file)) (task .schedule) (lengthsOf w) ≡ true
       → (runOf task w a .answer ≡ planOf task (a .plan) .answer) × (runOf task w a .left .plan ≡ planOf task (a .plan) .left)

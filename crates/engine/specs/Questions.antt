@@ -1,10 +1,11 @@
--- Run's questions in their order: the reader's 1 to 9, then 10, 11 and 13. Of the word lists they take the lengths alone.
+-- Run's questions in their order: the reader's 1 to 9, then 10, 11, 20 and 13. Of the word lists they take the lengths alone.
 use Prim.Native.Nat.{ℕ}
 use mathlib.Core.Bool.{Bool, _&&_}
 use mathlib.Core.List.{List, [], _∷_, _++_}
 use lib.ListN.{length}
 use lib.Dec.{eqb}
 use Rattle.lists.specs.Ladder.{Question, _orElse_, Answer, answer}
+use Rattle.method.specs.Changes.{Schedule, changesSuit}
 use Rattle.method.specs.WordLists.{Lengths}
 use Rattle.circuit.specs.File.{inputsOf}
 use Rattle.circuit.specs.Questions as reader
@@ -19,17 +20,17 @@ valuesLength = 2048
 unfoldable pub areasSuit : Areas → Bool
 areasSuit a = planner.areasSuit (a .plan) && eqb (length (a .values)) valuesLength
 
--- 11: Have the before list and the after list I words each?
-unfoldable pub wordsSuit : ℕ → Lengths → Bool
-wordsSuit inputs l = eqb (l .before) inputs && eqb (l .after) inputs
+-- 11: Has the before list I words, and the after list as many as there are change times, as they are handed in?
+unfoldable pub wordsSuit : ℕ → Schedule → Lengths → Bool
+wordsSuit inputs h l = eqb (l .before) inputs && eqb (l .after) (length (h .times))
 
 -- Run's own questions that write nothing
-abbrev pub ownQuestions : ℕ → Lengths → Areas → List Question
-ownQuestions inputs l a = (areasSuit a orElse 10) ∷ (wordsSuit inputs l orElse 11) ∷ []
+abbrev pub ownQuestions : ℕ → Schedule → Lengths → Areas → List Question
+ownQuestions inputs h l a = (areasSuit a orElse 10) ∷ (wordsSuit inputs h l orElse 11) ∷ (changesSuit inputs h orElse 20) ∷ []
 
--- 1 to 11
+-- 1 to 11, and 20
 unfoldable pub firstQuestions : Task → Lengths → Areas → List Question
-firstQuestions task l a = reader.questions (task .file) ++ ownQuestions (inputsOf (task .file)) l a
+firstQuestions task l a = reader.questions (task .file) ++ ownQuestions (inputsOf (task .file)) (task .schedule) l a
 
 -- what these answer by themselves, for calls that ask more before they run: the number of the first "no", or I and G
 unfoldable pub questionsOf : Task → Lengths → Areas → Answer reader.InputsAndGates

@@ -8,7 +8,7 @@ use Rattle.circuit.specs.Task.{Task}
 use Rattle.engine.specs.Areas.{Areas}
 use Rattle.engine.specs.Questions.{firstQuestions}
 
--- an accepted file, areas and word lists that passed questions 1 to 11
+-- an accepted file, areas, word lists and change times that passed questions 1 to 11 and 20
 pub record Asked (task : Task) (l : Lengths) (a : Areas) : Type 0 where
   pub read : readOf (task .file) ≡ accepted (record { inputs = inputsOf (task .file); gates = gatesOf (task .file) })
   pub none : firstNo (firstQuestions task l a) ≡ 0

@@ -1,4 +1,4 @@
-// Run: a circuit simulated for 64 pattern pairs at once.
+// Run: a circuit simulated in 64 lanes at once.
 ghost use mathlib.Core.Path.{_≡_};
 ghost use Rattle.lists.specs.Outcome.{outcome};
 ghost use Rattle.method.specs.WordLists.{wordLists, lengthsOf};
@@ -17,10 +17,12 @@ use planner::Planning;
 use running::own_fault;
 use running::simulate;
 
-// Runs the circuit of the file with a before word and an after word for each input: questions 1 to 11, and 13. It answers
-// what Plan does.
+// Runs the circuit of the file, whose inputs have these counts of changes and these change times, with a before word for each
+// input and an after word for each change, inputs in order: questions 1 to 11, then 20 and 13. It answers what Plan does.
 pub fn run(
     file: &[u8],
+    counts: &[u8],
+    changes: &[Tick],
     directory: &mut [u16],
     times: &mut [Tick],
     inertial: &mut [u16],
@@ -29,10 +31,12 @@ pub fn run(
     before: &[u64],
     after: &[u64],
 ) -> Planning
-    ensures { λ r. ⌜ outcome (onPaper r) (areas (now (directory .exit)) (now (times .exit)) (now (inertial .exit)) (now (fanins .exit)) (now (values .exit))) ≡ runOf (taskOf (now (file .entry))) (wordLists (now (before .entry)) (now (after .entry))) (areas (now (directory .entry)) (now (times .entry)) (now (inertial .entry)) (now (fanins .entry)) (now (values .entry))) ⌝ }
+    ensures { λ r. ⌜ outcome (onPaper r) (areas (now (directory .exit)) (now (times .exit)) (now (inertial .exit)) (now (fanins .exit)) (now (values .exit))) ≡ runOf (taskOf (now (file .entry)) (now (counts .entry)) (now (changes .entry))) (wordLists (now (before .entry)) (now (after .entry))) (areas (now (directory .entry)) (now (times .entry)) (now (inertial .entry)) (now (fanins .entry)) (now (values .entry))) ⌝ }
 {
     match questions(
         file,
+        counts,
+        changes,
         directory,
         times,
         inertial,
@@ -44,6 +48,8 @@ pub fn run(
         Reading::Refused(n) => Planning::Refused(n),
         Reading::Accepted { inputs, gates } => simulate(
             file,
+            counts,
+            changes,
             inputs,
             gates,
             directory,
@@ -57,9 +63,11 @@ pub fn run(
     }
 }
 
-// What Run asks from 1 to 11, for calls that ask more before they run. It answers what the reader does.
+// What Run asks before 13, for calls that ask more before they run. It answers what the reader does.
 pub fn questions(
     file: &[u8],
+    counts: &[u8],
+    changes: &[Tick],
     directory: &[u16],
     times: &[Tick],
     inertial: &[u16],
@@ -68,13 +76,15 @@ pub fn questions(
     before: &[u64],
     after: &[u64],
 ) -> Reading
-    ensures { λ r. ⌜ reader.onPaper r ≡ questionsOf (taskOf (now (file .entry))) (lengthsOf (wordLists (now (before .entry)) (now (after .entry)))) (areas (now (directory .entry)) (now (times .entry)) (now (inertial .entry)) (now (fanins .entry)) (now (values .entry))) ⌝ }
+    ensures { λ r. ⌜ reader.onPaper r ≡ questionsOf (taskOf (now (file .entry)) (now (counts .entry)) (now (changes .entry))) (lengthsOf (wordLists (now (before .entry)) (now (after .entry)))) (areas (now (directory .entry)) (now (times .entry)) (now (inertial .entry)) (now (fanins .entry)) (now (values .entry))) ⌝ }
 {
     match circuit::read(file) {
         Reading::Refused(n) => Reading::Refused(n),
         Reading::Accepted { inputs, gates } => {
             let fault = own_fault(
                 inputs,
+                counts,
+                changes,
                 directory,
                 times,
                 inertial,

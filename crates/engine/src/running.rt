@@ -1,7 +1,8 @@
-// Questions 10 and 11, and a run of a circuit that has passed them.
+// Questions 10, 11 and 20, and a run of a circuit that has passed them.
 ghost use mathlib.Core.Path.{_≡_};
 ghost use Rattle.lists.specs.Ladder.{firstNo};
 ghost use Rattle.lists.specs.Outcome.{outcome};
+ghost use Rattle.method.specs.Changes.{schedule};
 ghost use Rattle.method.specs.WordLists.{wordLists, lengthsOf};
 ghost use Rattle.circuit.specs.File.{inputsOf, gatesOf};
 ghost use Rattle.circuit.specs.Task.{taskOf};
@@ -16,9 +17,11 @@ use planner::Planning;
 
 const VALUES_LENGTH: usize = 2048;
 
-// Questions 10 and 11: the number of the first "no", or 0.
+// Questions 10, 11 and 20: the number of the first "no", or 0.
 pub(crate) fn own_fault(
     inputs: u16,
+    counts: &[u8],
+    changes: &[Tick],
     directory: &[u16],
     times: &[Tick],
     inertial: &[u16],
@@ -27,7 +30,7 @@ pub(crate) fn own_fault(
     before: &[u64],
     after: &[u64],
 ) -> u8
-    ensures { λ r. ⌜ r ≡ firstNo (ownQuestions inputs (lengthsOf (wordLists (now (before .entry)) (now (after .entry)))) (areas (now (directory .entry)) (now (times .entry)) (now (inertial .entry)) (now (fanins .entry)) (now (values .entry)))) ⌝ }
+    ensures { λ r. ⌜ r ≡ firstNo (ownQuestions inputs (schedule (now (counts .entry)) (now (changes .entry))) (lengthsOf (wordLists (now (before .entry)) (now (after .entry)))) (areas (now (directory .entry)) (now (times .entry)) (now (inertial .entry)) (now (fanins .entry)) (now (values .entry)))) ⌝ }
 {
     if !planner::areas_suit(directory, times, inertial, fanins) {
         return 10;
@@ -38,16 +41,21 @@ pub(crate) fn own_fault(
     if before.len() != inputs as usize {
         return 11;
     }
-    if after.len() != inputs as usize {
+    if after.len() != changes.len() {
         return 11;
+    }
+    if !stimulus::changes_suit(inputs, counts, changes) {
+        return 20;
     }
     0
 }
 
-// Plans and evaluates a circuit that has passed questions 1 to 11. What is behind the last frame is 0; so is everything if
+// Plans and evaluates a circuit that has passed these questions. What is behind the last frame is 0; so is everything if
 // there are too many frames.
 pub(crate) fn simulate(
     file: &[u8],
+    counts: &[u8],
+    changes: &[Tick],
     inputs: u16,
     gates: u16,
     directory: &mut [u16],
@@ -58,10 +66,20 @@ pub(crate) fn simulate(
     before: &[u64],
     after: &[u64],
 ) -> Planning
-    requires { ⌜ Asked (taskOf (now file)) (lengthsOf (wordLists (now before) (now after))) (areas (now directory) (now times) (now inertial) (now fanins) (now values)) × (inputs ≡ inputsOf (now file)) × (gates ≡ gatesOf (now file)) ⌝ }
-    ensures { λ r. ⌜ outcome (onPaper r) (areas (now (directory .exit)) (now (times .exit)) (now (inertial .exit)) (now (fanins .exit)) (now (values .exit))) ≡ runOf (taskOf (now (file .entry))) (wordLists (now (before .entry)) (now (after .entry))) (areas (now (directory .entry)) (now (times .entry)) (now (inertial .entry)) (now (fanins .entry)) (now (values .entry))) ⌝ }
+    requires { ⌜ Asked (taskOf (now file) (now counts) (now changes)) (lengthsOf (wordLists (now before) (now after))) (areas (now directory) (now times) (now inertial) (now fanins) (now values)) × (inputs ≡ inputsOf (now file)) × (gates ≡ gatesOf (now file)) ⌝ }
+    ensures { λ r. ⌜ outcome (onPaper r) (areas (now (directory .exit)) (now (times .exit)) (now (inertial .exit)) (now (fanins .exit)) (now (values .exit))) ≡ runOf (taskOf (now (file .entry)) (now (counts .entry)) (now (changes .entry))) (wordLists (now (before .entry)) (now (after .entry))) (areas (now (directory .entry)) (now (times .entry)) (now (inertial .entry)) (now (fanins .entry)) (now (values .entry))) ⌝ }
 {
-    match layout::fill(file, inputs, gates, directory, times, inertial, fanins) {
+    match layout::fill(
+        file,
+        counts,
+        changes,
+        inputs,
+        gates,
+        directory,
+        times,
+        inertial,
+        fanins,
+    ) {
         Progress::TooMany => {
             clearing::clear_words(values);
             Planning::Refused(13)
@@ -69,6 +87,8 @@ pub(crate) fn simulate(
         Progress::Planned(t) => {
             evaluation::evaluate(
                 file,
+                counts,
+                changes,
                 inputs,
                 gates,
                 t.frames,

@@ -1,53 +1,59 @@
--- The words of the inputs, written two a turn; and the places of a gate's fan-ins, gathered one a turn.
+-- The words of the inputs, written input by input; and the places of a gate's fan-ins, gathered one a turn.
 -- Assumes nothing.
-use Prim.Native.Nat.{ℕ, suc, _+_, _*_, _^_, _<_}
-use mathlib.Core.Path.{_≡_, refl, _∙_}
-use mathlib.Core.List.{List, [], _∷_, _++_, flatten, append-nil, append-assoc}
+use Prim.Native.Nat.{ℕ, suc, _+_, _≤_, _<_}
+use mathlib.Core.Path.{_≡_, refl, sym, ap, ap₂, _∙_}
+use mathlib.Core.List.{List, _∷_, _++_, flatten}
 use native.Mathlib.Omega.{arith}
 use native.Mathlib.Numerals.{add-one}
-use lib.ListN.{length, getD, take, set, length-set}
-use lib.Seq.{take-suc-set, getD-set-same, getD-set-other}
-use Rattle.lists.specs.Tables.{tabulate, tabulateFrom}
+use lib.ListN.{length, getD, take, set}
+use lib.Seq.{sets, getD-set-same, getD-set-other}
+use Rattle.lists.specs.Tables.{tabulateFrom}
 use Rattle.lists.proofs.Choices.{less, same, more, tri}
-use Rattle.lists.proofs.Tabled.{tabulate-snoc}
-use Rattle.lists.proofs.Flat.{flatten-append}
-use Rattle.method.specs.Words.{lanes, lane}
-use Rattle.method.specs.WordLists.{WordLists}
-use Rattle.method.proofs.Bits.{pack-is}
-use Rattle.evaluation.specs.Steps.{repacked, inputWords}
+use Rattle.lists.proofs.Tabled.{from-length, from-at}
+use Rattle.lists.proofs.Flat.{flat-next}
+use Rattle.lists.proofs.Storing as S
+use Rattle.lists.proofs.Storing.{Left, all, take-stored}
+use Rattle.method.specs.Changes.{startOf}
+use Rattle.method.specs.WordLists.{WordLists, lengthsOf}
+use Rattle.method.proofs.Changes.{start-mono}
+use Rattle.evaluation.specs.Steps.{afterWords, inputWords, Fed}
 
 -- ---- the inputs
 
--- a word of 64 lanes is packed from its own bits
-unpacked : (x : ℕ) → x < 2 ^ lanes → x ≡ repacked x
-unpacked x h = pack-is lanes x (λ (L : ℕ). lane L x) h (λ L l. refl)
+-- behind a before word, at `first`, the after words are stored one a turn
+module _ (after : List ℕ) (start n : ℕ) where
+  pub after-more : {v₀ v : List ℕ} {at k : ℕ} → Left v₀ at (afterWords after start n) v k → k < n → Left v₀ at (afterWords after start n) (set v (at + k) (getD after (start + k) 0)) (k + 1)
+  after-more {k = k} l h = S.more l (rw (from-length n start (λ (k : ℕ). getD after k 0)) h) (sym (from-at n start (λ (k : ℕ). getD after k 0) 0 k h))
 
-module _ (w : WordLists) where
-  pub inputs-none : (v : List ℕ) → take (2 * 0) v ≡ inputWords w 0
+  pub after-all : (v : List ℕ) (first b : ℕ) {v′ : List ℕ} {k : ℕ} → Left (set v first b) (first + 1) (afterWords after start n) v′ k → n ≤ k → v′ ≡ sets v first (b ∷ afterWords after start n)
+  after-all v first b l h = rw (add-one first) at (all l (rw (from-length n start (λ (k : ℕ). getD after k 0)) h))
+
+module _ (counts : List ℕ) (w : WordLists) where
+  pub inputs-none : (v : List ℕ) → take (0 + 0) v ≡ inputWords counts w 0
   unfolding inputWords tabulateFrom flatten
   inputs-none v = refl
 
-  one-more : (i : ℕ) → inputWords w (i + 1) ≡ inputWords w i ++ (repacked (getD (w .before) i 0) ∷ repacked (getD (w .after) i 0) ∷ [])
-  unfolding inputWords flatten
-  one-more i =
-      let pair : ℕ → List ℕ = λ (i : ℕ). repacked (getD (w .before) i 0) ∷ repacked (getD (w .after) i 0) ∷ [] in
-      rw (add-one i, tabulate-snoc i pair) (flatten-append (tabulate i pair) (pair i ∷ []) ∙ rw (append-nil (pair i)))
+  -- where the words of input i lie, there is room for them, in the values and among the after words
+  module _ {v : List ℕ} (f : Fed counts (lengthsOf w) v) {i start : ℕ} (h : i < length (w .before)) (s : start ≡ startOf counts i) where
+    pub input-after : start + getD counts i 0 ≤ length (w .after)
+    input-after = omega (arith, start-mono counts i (length (w .before)) h, f .add-up)
 
-  pub inputs-more : (v : List ℕ) (i : ℕ) → 2 * i + 1 < length v → getD (w .before) i 0 < 2 ^ lanes → getD (w .after) i 0 < 2 ^ lanes → take (2 * i) v ≡ inputWords w i
-      → take (2 * (i + 1)) (set (set v (2 * i) (getD (w .before) i 0)) (2 * i + 1) (getD (w .after) i 0)) ≡ inputWords w (i + 1)
-  inputs-more v i h b a e =
-      let v′ = set v (2 * i) (getD (w .before) i 0) in
-      rw (
-        let q : 2 * (i + 1) ≡ suc (suc (2 * i)) = omega arith in q,
-        let q : 2 * i + 1 ≡ suc (2 * i) = omega arith in q,
-        take-suc-set v′ (suc (2 * i)) (getD (w .after) i 0) (rw (length-set v (2 * i) (getD (w .before) i 0)) (omega arith)),
-        take-suc-set v (2 * i) (getD (w .before) i 0) (omega arith),
-        e,
-        append-assoc (inputWords w i) (getD (w .before) i 0 ∷ []) (getD (w .after) i 0 ∷ []),
-        one-more i,
-        ← unpacked (getD (w .before) i 0) b,
-        ← unpacked (getD (w .after) i 0) a,
-      )
+    pub input-room : i + start + 1 + getD counts i 0 ≤ length v
+    input-room = omega (arith, input-after, f .room)
+
+  -- one input more
+  pub inputs-more : (v : List ℕ) (i start : ℕ) {v′ : List ℕ} → i + start + 1 + getD counts i 0 ≤ length v → start ≡ startOf counts i
+      → v′ ≡ sets v (i + start) (getD (w .before) i 0 ∷ afterWords (w .after) start (getD counts i 0)) → take (i + start) v ≡ inputWords counts w i
+      → take ((i + 1) + (start + getD counts i 0)) v′ ≡ inputWords counts w (i + 1)
+  unfolding inputWords
+  inputs-more v i start {v′} room s stored e =
+      let row : List ℕ = getD (w .before) i 0 ∷ afterWords (w .after) start (getD counts i 0) in
+      let size : length row ≡ suc (getD counts i 0) = ap suc (from-length (getD counts i 0) start (λ (k : ℕ). getD (w .after) k 0)) in
+      let q : (i + 1) + (start + getD counts i 0) ≡ (i + start) + length row = omega arith in
+      rw (q, stored, add-one i)
+      (take-stored v row (i + start) (omega arith)
+      ∙ ap₂ (λ (x y : List ℕ). x ++ y) e (ap (λ (n : ℕ). getD (w .before) i 0 ∷ afterWords (w .after) n (getD counts i 0)) s)
+      ∙ sym (flat-next (λ (i : ℕ). getD (w .before) i 0 ∷ afterWords (w .after) (startOf counts i) (getD counts i 0)) i))
 
 -- ---- the bases
 

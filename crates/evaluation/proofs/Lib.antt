@@ -4,4 +4,5 @@ pub mod Writing
 pub mod Driving
 pub mod Placing
 pub mod Valued
+pub mod Readying
 pub mod Gating

@@ -2,14 +2,15 @@
 use Prim.Native.Nat.{ℕ, _+_, _*_, _<_, _≤_}
 use mathlib.Core.Path.{_≡_}
 use mathlib.Core.Bool.{Bool, true, false, not, Bool·beq}
-use mathlib.Core.List.{List, [], _∷_, map, flatten}
+use mathlib.Core.List.{List, _∷_, map, flatten}
 use lib.ListN.{length, getD, take}
 use Rattle.lists.specs.Ladder.{accepted}
-use Rattle.lists.specs.Tables.{tabulate, some}
+use Rattle.lists.specs.Tables.{tabulateFrom, tabulate, some}
 use Rattle.method.specs.declared.Kind.{Kind}
 use Rattle.method.specs.declared.Kind.the-variants.{Buf, Not, And, Nand, Or, Nor, Xor, Xnor}
 use Rattle.method.specs.Kinds.{ones, odd, gateFn, mostFanins, takes}
 use Rattle.method.specs.Words.{lanes, lane, pack}
+use Rattle.method.specs.Changes.{startOf, changesSuit}
 use Rattle.method.specs.WordLists.{WordLists, Lengths}
 use Rattle.circuit.specs.declared.GateRecord.{GateRecord}
 use Rattle.circuit.specs.File.{inputsOf, gatesOf, faninAt}
@@ -135,9 +136,10 @@ pub record Ready (file d i f : List ℕ) (size net : ℕ) (g : GateRecord) (at :
 
 -- ---- all gates
 
--- the areas hold the plan of an accepted file, with some times, and are long enough for it
+-- the areas hold the plan of an accepted file and of change times that suit it, with some times, and are long enough for it
 pub record Planned (task : Task) (d i f : List ℕ) : Type 0 where
   pub read : readOf (task .file) ≡ accepted (record { inputs = inputsOf (task .file); gates = gatesOf (task .file) })
+  pub suits : changesSuit (inputsOf (task .file)) (task .schedule) ≡ true
   pub times : List ℕ
   pub is : areas d times i f ≡ laid (framesIn task) (areas d times i f)
   pub pairs : 2 * length (framesIn task) ≤ length d
@@ -152,19 +154,28 @@ pub record Roomy (task : Task) (v : List ℕ) : Type 0 where
 pub record Holds (task : Task) (w : WordLists) (n : ℕ) (v : List ℕ) : Type 0 where
   pub is : take (length (allTimes (take n (framesIn task)))) v ≡ flatten (tabulate n (packedIn task w))
 
--- the two words of each of the first n inputs, each packed from its own bits
-abbrev pub repacked : ℕ → ℕ
-repacked word = pack lanes (λ (L : ℕ). lane L word)
+-- ---- the inputs
 
-unfoldable pub inputWords : WordLists → ℕ → List ℕ
-inputWords w n = flatten (tabulate n (λ (i : ℕ). repacked (getD (w .before) i 0) ∷ repacked (getD (w .after) i 0) ∷ []))
+-- n after words, those from place `start` on
+abbrev pub afterWords : List ℕ → ℕ → ℕ → List ℕ
+afterWords after start n = tabulateFrom n start (λ (k : ℕ). getD after k 0)
+
+-- the words of the first n inputs: of each its before word and its after words, as many as its count
+unfoldable pub inputWords : List ℕ → WordLists → ℕ → List ℕ
+inputWords counts w n =
+    flatten (tabulate n (λ (i : ℕ). getD (w .before) i 0 ∷ afterWords (w .after) (startOf counts i) (getD counts i 0)))
+
+-- a count for each before word, as many after words as the counts add up to, and room for all of them
+pub record Fed (counts : List ℕ) (l : Lengths) (v : List ℕ) : Type 0 where
+  pub each : length counts ≡ l .before
+  pub add-up : startOf counts (l .before) ≡ l .after
+  pub room : l .before + l .after ≤ length v
 
 -- ---- the whole
 
--- the word lists are as long as there are inputs, the values have room, and there are this many frames
+-- a before word for each input, an after word for each change, a place in the values for each frame, and this many frames
 pub record Driven (task : Task) (l : Lengths) (v : List ℕ) (total : ℕ) : Type 0 where
   pub before-each : l .before ≡ inputsOf (task .file)
-  pub after-each : l .after ≡ l .before
-  pub room : 2 * l .before ≤ length v
+  pub after-each : l .after ≡ length (task .schedule .times)
   pub words : Roomy task v
   pub total-is : total ≡ length (allTimes (framesIn task))

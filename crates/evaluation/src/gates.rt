@@ -1,36 +1,63 @@
 // The gates, one after the other: each net's words from those of the nets before it.
 ghost use mathlib.Core.Path.{_≡_};
+ghost use mathlib.Core.List.{_∷_};
 ghost use Prim.Native.Nat.{ℕ, _+_, _*_, _<_, _≤_};
 ghost use lib.ListN.{length, take};
 ghost use lib.Seq.{sets};
 ghost use Rattle.method.specs.Kinds.{mostFanins};
-ghost use Rattle.method.specs.WordLists.{WordLists, wordLists};
+ghost use Rattle.method.specs.WordLists.{WordLists, wordLists, lengthsOf};
 ghost use Rattle.circuit.specs.File.{inputsOf, gatesOf, faninAt};
 ghost use Rattle.circuit.specs.Task.{taskOf};
 ghost use Rattle.method.specs.Layout.{firstFrame, frameCount};
-ghost use Rattle.evaluation.specs.Steps.{Bases, Holds, Planned, Raw, Ready, Roomy, basesOf, gateWords, inputWords, rawWords};
+ghost use Rattle.evaluation.specs.Steps.{Bases, Fed, Holds, Planned, Raw, Ready, Roomy, afterWords, basesOf, gateWords, inputWords, rawWords};
 use crate::rows::pair_rows;
 use crate::rows::rule_of;
 use crate::rows::wide_rows;
 use circuit::GateRecord;
 use method::Net;
+use method::Tick;
 
-// Writes the two words of each input.
-pub(crate) fn input_words(values: &mut [u64], before: &[u64], after: &[u64])
-    requires { ⌜ (2 * length (now before) ≤ length (now values)) × (length (now after) ≡ length (now before)) ⌝ }
-    ensures { λ _. ⌜ take (2 * length (now (before .entry))) (now (values .exit)) ≡ inputWords (wordLists (now (before .entry)) (now (after .entry))) (length (now (before .entry))) ⌝ }
+// Writes the words of each input, one input after the other: its before word, and its after words, as many as its count.
+pub(crate) fn input_words(counts: &[u8], values: &mut [u64], before: &[u64], after: &[u64])
+    requires { ⌜ Fed (now counts) (lengthsOf (wordLists (now before) (now after))) (now values) ⌝ }
+    ensures { λ _. ⌜ take (length (now (before .entry)) + length (now (after .entry))) (now (values .exit)) ≡ inputWords (now (counts .entry)) (wordLists (now (before .entry)) (now (after .entry))) (length (now (before .entry))) ⌝ }
 {
+    let mut start: usize = 0;
     let mut i = 0;
     while i < before.len() {
-        values[2 * i] = before[i];
-        values[2 * i + 1] = after[i];
+        let count = counts[i] as usize;
+        one_input(values, i + start, before[i], after, start, count);
+        start += count;
         i += 1;
     }
 }
 
-// Writes the words of all gates behind those of the inputs.
+// Writes the words of an input from `first` on: its before word, and `count` after words, those from `start` on.
+fn one_input(
+    values: &mut [u64],
+    first: usize,
+    before: u64,
+    after: &[u64],
+    start: usize,
+    count: usize,
+)
+    requires { ⌜ (first + 1 + count ≤ length (now values)) × (start + count ≤ length (now after)) ⌝ }
+    ensures { λ _. ⌜ now (values .exit) ≡ sets (now (values .entry)) first (before ∷ afterWords (now (after .entry)) start count) ⌝ }
+{
+    values[first] = before;
+    let behind = first + 1;
+    let mut k = 0;
+    while k < count {
+        values[behind + k] = after[start + k];
+        k += 1;
+    }
+}
+
+// Writes the words of all gates behind those of the inputs. The change counts and times are there for the contract.
 pub(crate) fn all_gates(
     file: &[u8],
+    counts: &[u8],
+    changes: &[Tick],
     directory: &[u16],
     inertial: &[u16],
     fanins: &[u16],
@@ -38,9 +65,9 @@ pub(crate) fn all_gates(
     inputs: u16,
     gates: u16,
 )
-    requires { ⌜ Planned (taskOf (now file)) (now directory) (now inertial) (now fanins) × (inputs ≡ inputsOf (now file)) × (gates ≡ gatesOf (now file)) ⌝ }
-    requires { ⌜ Roomy (taskOf (now file)) (now values) ⌝ }
-    ensures { λ _. ⌜ ((w : WordLists) → Holds (taskOf (now (file .entry))) w inputs (now (values .entry)) → Holds (taskOf (now (file .entry))) w (inputs + gates) (now (values .exit))) ⌝ }
+    requires { ⌜ Planned (taskOf (now file) (now counts) (now changes)) (now directory) (now inertial) (now fanins) × (inputs ≡ inputsOf (now file)) × (gates ≡ gatesOf (now file)) ⌝ }
+    requires { ⌜ Roomy (taskOf (now file) (now counts) (now changes)) (now values) ⌝ }
+    ensures { λ _. ⌜ ((w : WordLists) → Holds (taskOf (now (file .entry)) (now (counts .entry)) (now (changes .entry))) w inputs (now (values .entry)) → Holds (taskOf (now (file .entry)) (now (counts .entry)) (now (changes .entry))) w (inputs + gates) (now (values .exit))) ⌝ }
 {
     let mut at: usize = 0;
     let mut j: u16 = 0;

@@ -12,11 +12,14 @@ mod rows;
 
 use gates::all_gates;
 use gates::input_words;
+use method::Tick;
 
 // Writes the words of all nets from their plan, which has `total` frames, and the words of the inputs. What is behind the
-// last frame is 0.
+// last frame is 0. The change times are there for the contract: the plan was made from them.
 pub fn evaluate(
     file: &[u8],
+    counts: &[u8],
+    changes: &[Tick],
     inputs: u16,
     gates: u16,
     total: u16,
@@ -27,13 +30,23 @@ pub fn evaluate(
     before: &[u64],
     after: &[u64],
 )
-    requires { ⌜ Planned (taskOf (now file)) (now directory) (now inertial) (now fanins) × (inputs ≡ inputsOf (now file)) × (gates ≡ gatesOf (now file)) ⌝ }
-    requires { ⌜ Driven (taskOf (now file)) (lengthsOf (wordLists (now before) (now after))) (now values) total ⌝ }
-    ensures { λ _. ⌜ now (values .exit) ≡ padded (length (now (values .entry))) (allPackedIn (taskOf (now (file .entry))) (wordLists (now (before .entry)) (now (after .entry)))) ⌝ }
+    requires { ⌜ Planned (taskOf (now file) (now counts) (now changes)) (now directory) (now inertial) (now fanins) × (inputs ≡ inputsOf (now file)) × (gates ≡ gatesOf (now file)) ⌝ }
+    requires { ⌜ Driven (taskOf (now file) (now counts) (now changes)) (lengthsOf (wordLists (now before) (now after))) (now values) total ⌝ }
+    ensures { λ _. ⌜ now (values .exit) ≡ padded (length (now (values .entry))) (allPackedIn (taskOf (now (file .entry)) (now (counts .entry)) (now (changes .entry))) (wordLists (now (before .entry)) (now (after .entry)))) ⌝ }
 {
     let frames = total as usize;
-    input_words(values, before, after);
-    all_gates(file, directory, inertial, fanins, values, inputs, gates);
+    input_words(counts, values, before, after);
+    all_gates(
+        file,
+        counts,
+        changes,
+        directory,
+        inertial,
+        fanins,
+        values,
+        inputs,
+        gates,
+    );
     let end = values.len();
     clearing::clear_words(&mut values[frames..end]);
 }

@@ -2,7 +2,6 @@
 // it needs.
 ghost use mathlib.Core.Path.{_≡_};
 ghost use mathlib.Core.List.{flatMap};
-ghost use Prim.Native.Nat.{max};
 ghost use lib.ListN.{length};
 ghost use Rattle.method.specs.Times.{gateTimes};
 ghost use Rattle.method.specs.Indices.{inertialIndices};
@@ -48,17 +47,10 @@ pub fn store_gate(
     let pair = 2 * (net.0 as usize);
     directory[pair] = first;
     directory[pair + 1] = count as u16;
-    let end = Time(own[count - 1]);
+    let end = own[count - 1];
     Totals {
         frames: first + count as u16,
         fanins: at + count as u16 * gate.entries,
-        last: later_of(last, end),
+        last: Time(slices::later_of(last.0, end)),
     }
-}
-
-// The later of two times.
-fn later_of(a: Time, b: Time) -> Time
-    ensures { λ r. ⌜ r .0 ≡ max (a .0) (b .0) ⌝ }
-{
-    if a.0 < b.0 { b } else { a }
 }

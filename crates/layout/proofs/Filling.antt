@@ -6,7 +6,7 @@ use mathlib.Core.List.{List}
 use Rattle.lists.specs.Areas.{cleared}
 use Rattle.method.specs.Frames.{Frames}
 use Rattle.circuit.specs.File.{gatesOf}
-use Rattle.circuit.specs.Task.{Task, circuitIn, framesIn}
+use Rattle.circuit.specs.Task.{Task, circuitIn, momentsIn, framesIn}
 use Rattle.circuit.proofs.Parts.{gates-length}
 use Rattle.method.specs.declared.Totals.{Totals}
 use Rattle.layout.specs.declared.Progress.{Progress}
@@ -34,7 +34,7 @@ cleared-alike l = rw (l .directory, l .times, l .inertial, l .fanins)
 
 module _ (task : Task) {gates : ℕ} (all : gates ≡ gatesOf (task .file)) {a′ : Areas} {r : Progress} (h : Reached task gates a′ r) where
   nets-all : framesOf task gates ≡ framesIn task
-  nets-all = frames-all (circuitIn task) gates (all ∙ sym (gates-length (task .file)))
+  nets-all = frames-all (circuitIn task) (momentsIn task) gates (all ∙ sym (gates-length (task .file)))
 
   pub filled-now : {a : Areas} (t : Totals) → r ≡ P.Planned t → Alike a a′ → Filled task a a′ (P.Planned t)
   filled-now t e l =

@@ -15,10 +15,11 @@ use Rattle.method.specs.Indices.{inertialIndices}
 use Rattle.method.specs.Frames.{Frames, faninRow, noFrames}
 use Rattle.method.proofs.Rising.{Starts, starts-test, gateTimes-start}
 use Rattle.method.proofs.Planned.{times-start}
+use Rattle.method.proofs.Changes.{Suited, suited}
 use Rattle.circuit.specs.declared.GateRecord.{GateRecord}
 use Rattle.circuit.specs.File.{inputsOf, gatesOf, faninAt, recordOf}
 use Rattle.circuit.specs.Limits.{mostTime}
-use Rattle.circuit.specs.Task.{Task, circuitIn}
+use Rattle.circuit.specs.Task.{Task, circuitIn, momentsIn}
 use Rattle.circuit.proofs.Parts.{gates-length, gateFrom, circuit-inputs, circuit-within, few, within, gate-read, gate-entries}
 use Rattle.method.specs.declared.Totals.{Totals}
 use Rattle.layout.specs.declared.Progress.the-variants as P
@@ -66,6 +67,9 @@ pub record Step (task : Task) (net j : ℕ) (a : Areas) (t : Totals) (g : GateRe
 
 module _ (task : Task) {a : Areas} (given : Given task a) (j : ℕ) (l : j < gatesOf (task .file)) {net : ℕ} (own-net : net ≡ inputsOf (task .file) + j)
     {t : Totals} (go : Going task j a t) {g : GateRecord} (ge : g ≡ recordOf (task .file) j) where
+  change-times : Suited (inputsOf (task .file)) (task .schedule)
+  change-times = suited (inputsOf (task .file)) (task .schedule) (given .suits)
+
   frames-sum : t .frames ≡ length (allTimes (framesOf task j))
   unfolding totalsOf
   frames-sum = ap (λ (x : Totals). x .frames) (go .totals)
@@ -93,7 +97,7 @@ module _ (task : Task) {a : Areas} (given : Given task a) (j : ℕ) (l : j < gat
   at n h = spot-at (framesOf task j) (go .is) n (omega (arith, count))
 
   early : (n : ℕ) → n < inputsOf (task .file) + j → (k : ℕ) → getD (getD (framesOf task j) n noFrames .times) k 0 ≤ mostTime
-  early n h = frames-early (circuitIn task) (circuit-within (task .file) (given .read)) j (omega (arith, gates-length (task .file))) n (omega (arith, circuit-inputs (task .file)))
+  early n h = frames-early (circuitIn task) (circuit-within (task .file) (given .read)) (momentsIn task) (change-times .early) j (omega (arith, gates-length (task .file))) n (omega (arith, circuit-inputs (task .file)))
 
   -- the gate's fan-ins
 
@@ -113,7 +117,7 @@ module _ (task : Task) {a : Areas} (given : Given task a) (j : ℕ) (l : j < gat
         few = λ e h. omega (arith, at (faninAt (task .file) (g .list) e) (below e h) .size, fits-net (framesOf task j) (go .fit) (faninAt (task .file) (g .list) e));
         starts = λ e h.
             rw (at (faninAt (task .file) (g .list) e) (below e h) .times)
-            (starts-test (getD (framesOf task j) (faninAt (task .file) (g .list) e) noFrames .times) (times-start (firstGates j (circuitIn task)) (faninAt (task .file) (g .list) e)));
+            (starts-test (getD (framesOf task j) (faninAt (task .file) (g .list) e) noFrames .times) (times-start (firstGates j (circuitIn task)) (momentsIn task) (change-times .ordered) (faninAt (task .file) (g .list) e)));
         early = low-area mostTime (framesOf task j) (go .is) (λ n h. early n (omega (arith, count)));
       }
 
@@ -128,57 +132,57 @@ module _ (task : Task) {a : Areas} (given : Given task a) (j : ℕ) (l : j < gat
   read : gateAt (circuitIn task) j ≡ gateFrom (task .file) g
   read = rw ge (gate-read (task .file) (given .read) j l)
 
-  spans-are : spans (task .file) (g .list) (g .entries) (a .directory) (a .times) ≡ faninTimes (circuitIn task) j
+  spans-are : spans (task .file) (g .list) (g .entries) (a .directory) (a .times) ≡ faninTimes (circuitIn task) (momentsIn task) j
   spans-are = rw read (spans-from (g .list) (g .entries) 0 (λ k x y. below k (omega arith)))
 
   -- the gate's own times
 
-  own-times : gateTimes (g .delay) (spans (task .file) (g .list) (g .entries) (a .directory) (a .times)) ≡ nextFrames (circuitIn task) j .times
-  own-times = ap₂ gateTimes (ap (λ (x : Gate). x .delay) (sym read)) spans-are ∙ sym (next-times (circuitIn task) j)
+  own-times : gateTimes (g .delay) (spans (task .file) (g .list) (g .entries) (a .directory) (a .times)) ≡ nextFrames (circuitIn task) (momentsIn task) j .times
+  own-times = ap₂ gateTimes (ap (λ (x : Gate). x .delay) (sym read)) spans-are ∙ sym (next-times (circuitIn task) (momentsIn task) j)
 
-  own-starts : Starts (nextFrames (circuitIn task) j .times)
-  own-starts = rw (next-times (circuitIn task) j) (gateTimes-start (gateAt (circuitIn task) j .delay) (faninTimes (circuitIn task) j))
+  own-starts : Starts (nextFrames (circuitIn task) (momentsIn task) j .times)
+  own-starts = rw (next-times (circuitIn task) (momentsIn task) j) (gateTimes-start (gateAt (circuitIn task) j .delay) (faninTimes (circuitIn task) (momentsIn task) j))
 
-  own-early : (k : ℕ) → getD (nextFrames (circuitIn task) j .times) k 0 ≤ mostTime
+  own-early : (k : ℕ) → getD (nextFrames (circuitIn task) (momentsIn task) j .times) k 0 ≤ mostTime
   own-early k =
-      let e = frames-early (circuitIn task) (circuit-within (task .file) (given .read)) (j + 1) (omega (arith, gates-length (task .file))) (inputsOf (task .file) + j) (omega (arith, circuit-inputs (task .file))) k in
-      rw (nets-next task (given .read) j l, ← count, getD-append-seam (framesOf task j) (nextFrames (circuitIn task) j) [] noFrames) at e
+      let e = frames-early (circuitIn task) (circuit-within (task .file) (given .read)) (momentsIn task) (change-times .early) (j + 1) (omega (arith, gates-length (task .file))) (inputsOf (task .file) + j) (omega (arith, circuit-inputs (task .file))) k in
+      rw (nets-next task (given .read) j l, ← count, getD-append-seam (framesOf task j) (nextFrames (circuitIn task) (momentsIn task) j) [] noFrames) at e
 
   -- as gate_times left them
   module _ {row : List ℕ} {most n : ℕ} (p : Put row (gateTimes (g .delay) (spans (task .file) (g .list) (g .entries) (a .directory) (a .times))) most n) where
-    own-is : take (n - 0) (drop 0 row) ≡ nextFrames (circuitIn task) j .times
+    own-is : take (n - 0) (drop 0 row) ≡ nextFrames (circuitIn task) (momentsIn task) j .times
     own-is = front row n ∙ p .is ∙ own-times
 
-    n-is : length (nextFrames (circuitIn task) j .times) ≡ n
+    n-is : length (nextFrames (circuitIn task) (momentsIn task) j .times) ≡ n
     n-is = rw (← own-times) (p .size)
 
     too-long : mostNetFrames < n → fits (framesOf task (j + 1)) ≡ false
-    too-long h = rw (nets-next task (given .read) j l) (fits-long (framesOf task j) (nextFrames (circuitIn task) j) (omega (arith, n-is)))
+    too-long h = rw (nets-next task (given .read) j l) (fits-long (framesOf task j) (nextFrames (circuitIn task) (momentsIn task) j) (omega (arith, n-is)))
 
     too-many : mostTotalFrames - t .frames < n → fits (framesOf task (j + 1)) ≡ false
-    too-many h = rw (nets-next task (given .read) j l) (fits-many (framesOf task j) (nextFrames (circuitIn task) j) (omega (arith, n-is, frames-sum)))
+    too-many h = rw (nets-next task (given .read) j l) (fits-many (framesOf task j) (nextFrames (circuitIn task) (momentsIn task) j) (omega (arith, n-is, frames-sum)))
 
     module _ (small : n ≤ mostNetFrames) (left : n ≤ mostTotalFrames - t .frames) where
-      fit-next : fits (framesOf task j ++ (nextFrames (circuitIn task) j ∷ [])) ≡ true
-      fit-next = fits-more (framesOf task j) (nextFrames (circuitIn task) j) (go .fit) (omega (arith, n-is)) (omega (arith, n-is, frames-low, frames-sum))
+      fit-next : fits (framesOf task j ++ (nextFrames (circuitIn task) (momentsIn task) j ∷ [])) ≡ true
+      fit-next = fits-more (framesOf task j) (nextFrames (circuitIn task) (momentsIn task) j) (go .fit) (omega (arith, n-is)) (omega (arith, n-is, frames-low, frames-sum))
 
-      room-next : Room (framesOf task j ++ (nextFrames (circuitIn task) j ∷ [])) a
+      room-next : Room (framesOf task j ++ (nextFrames (circuitIn task) (momentsIn task) j ∷ [])) a
       room-next = rw (nets-next task (given .read) j l) at (given .room (j + 1) (omega arith) (rw (nets-next task (given .read) j l) fit-next))
 
-      total-next : length (allTimes (framesOf task j ++ (nextFrames (circuitIn task) j ∷ []))) ≡ t .frames + n
-      total-next = omega (arith, total-more (framesOf task j) (nextFrames (circuitIn task) j), n-is, frames-sum)
+      total-next : length (allTimes (framesOf task j ++ (nextFrames (circuitIn task) (momentsIn task) j ∷ []))) ≡ t .frames + n
+      total-next = omega (arith, total-more (framesOf task j) (nextFrames (circuitIn task) (momentsIn task) j), n-is, frames-sum)
 
-      fanins-next : length (allFanins (framesOf task j ++ (nextFrames (circuitIn task) j ∷ []))) ≡ t .fanins + n * g .entries
+      fanins-next : length (allFanins (framesOf task j ++ (nextFrames (circuitIn task) (momentsIn task) j ∷ []))) ≡ t .fanins + n * g .entries
       fanins-next =
-          fanins-more (framesOf task j) (nextFrames (circuitIn task) j)
-          ∙ ap₂ _+_ (sym fanins-sum) (next-count (circuitIn task) j ∙ ap₂ _*_ n-is (gate-entries (task .file) (given .read) j l ∙ ap (λ (x : GateRecord). x .entries) (sym ge)))
+          fanins-more (framesOf task j) (nextFrames (circuitIn task) (momentsIn task) j)
+          ∙ ap₂ _+_ (sym fanins-sum) (next-count (circuitIn task) (momentsIn task) j ∙ ap₂ _*_ n-is (gate-entries (task .file) (given .read) j l ∙ ap (λ (x : GateRecord). x .entries) (sym ge)))
 
       place : Place a net t n (g .entries)
       place =
-          let w : length (allFanins (framesOf task j ++ (nextFrames (circuitIn task) j ∷ []))) ≤ mostFanins * length (allTimes (framesOf task j ++ (nextFrames (circuitIn task) j ∷ []))) =
+          let w : length (allFanins (framesOf task j ++ (nextFrames (circuitIn task) (momentsIn task) j ∷ []))) ≤ mostFanins * length (allTimes (framesOf task j ++ (nextFrames (circuitIn task) (momentsIn task) j ∷ []))) =
           rw (nets-next task (given .read) j l) at (nets-sized task (given .read) (j + 1) (omega arith) .wide) in
           record {
-            directory = omega (arith, own-net, room-next .directory, length-append (framesOf task j) (nextFrames (circuitIn task) j ∷ []), count);
+            directory = omega (arith, own-net, room-next .directory, length-append (framesOf task j) (nextFrames (circuitIn task) (momentsIn task) j ∷ []), count);
             times = omega (arith, room-next .times, total-next);
             inertial = omega (arith, room-next .inertial, total-next);
             fanins = omega (arith, room-next .fanins, fanins-next);
@@ -192,47 +196,47 @@ module _ (task : Task) {a : Areas} (given : Given task a) (j : ℕ) (l : j < gat
       times : Span (take (n - 0) (drop 0 row))
       times =
           record {
-            starts = rw own-is (starts-test (nextFrames (circuitIn task) j .times) own-starts);
+            starts = rw own-is (starts-test (nextFrames (circuitIn task) (momentsIn task) j .times) own-starts);
             few = omega (arith, own-length);
             early = λ k. rw own-is (own-early k);
           }
 
       -- what stands there after the gate is stored
       module _ {a′ : Areas} {t′ : Totals} (st : Stored a a′ net t t′ (g .entries) (take (n - 0) (drop 0 row)) (inertialIndices (g .inertial) (take (n - 0) (drop 0 row))) (flatMap (faninRow (g .delay) (spans (task .file) (g .list) (g .entries) (a .directory) (a .times))) (take (n - 0) (drop 0 row)))) where
-        behind : Behind (framesOf task j) (nextFrames (circuitIn task) j) a a′
+        behind : Behind (framesOf task j) (nextFrames (circuitIn task) (momentsIn task) j) a a′
         behind =
             let even = nets-sized task (given .read) j (omega arith) .even in
-            let d : a′ .directory ≡ sets (a .directory) (2 * net) (t .frames ∷ length (nextFrames (circuitIn task) j .times) ∷ []) = rw (← own-is) (st .directory-is) in
+            let d : a′ .directory ≡ sets (a .directory) (2 * net) (t .frames ∷ length (nextFrames (circuitIn task) (momentsIn task) j .times) ∷ []) = rw (← own-is) (st .directory-is) in
             record {
               directory = rw (count, ← own-net, ← frames-sum) d;
               times = rw (← frames-sum, ← own-is) (st .times-are);
               inertial =
                   st .inertial-is
-                  ∙ ap₂ (sets (a .inertial)) (frames-sum ∙ sym even) (ap₂ inertialIndices (ap (λ (x : Gate). x .inertial) (sym read)) own-is ∙ sym (next-inertial (circuitIn task) j));
+                  ∙ ap₂ (sets (a .inertial)) (frames-sum ∙ sym even) (ap₂ inertialIndices (ap (λ (x : Gate). x .inertial) (sym read)) own-is ∙ sym (next-inertial (circuitIn task) (momentsIn task) j));
               fanins =
                   st .fanins-are
                   ∙ ap₂ (sets (a .fanins)) fanins-sum
                   (ap₂ (λ (d : ℕ) (ss : List (List ℕ)). flatMap (faninRow d ss) (take (n - 0) (drop 0 row))) (ap (λ (x : Gate). x .delay) (sym read)) spans-are
-                  ∙ ap (flatMap (faninRow (gateAt (circuitIn task) j .delay) (faninTimes (circuitIn task) j))) own-is ∙ sym (next-rows (circuitIn task) j));
+                  ∙ ap (flatMap (faninRow (gateAt (circuitIn task) j .delay) (faninTimes (circuitIn task) (momentsIn task) j))) own-is ∙ sym (next-rows (circuitIn task) (momentsIn task) j));
             }
 
-        last-next : t′ .last .0 ≡ latest (allTimes (framesOf task j) ++ nextFrames (circuitIn task) j .times)
+        last-next : t′ .last .0 ≡ latest (allTimes (framesOf task j) ++ nextFrames (circuitIn task) (momentsIn task) j .times)
         last-next =
-            st .last-is ∙ ap₂ max last-is (rw own-is (sym (latest-is (nextFrames (circuitIn task) j .times) own-starts)))
-            ∙ sym (latest-append (allTimes (framesOf task j)) (nextFrames (circuitIn task) j .times))
+            st .last-is ∙ ap₂ max last-is (rw own-is (sym (latest-is (nextFrames (circuitIn task) (momentsIn task) j .times) own-starts)))
+            ∙ sym (latest-append (allTimes (framesOf task j)) (nextFrames (circuitIn task) (momentsIn task) j .times))
 
-        totals-next : t′ ≡ totalsOf (framesOf task j ++ (nextFrames (circuitIn task) j ∷ []))
+        totals-next : t′ ≡ totalsOf (framesOf task j ++ (nextFrames (circuitIn task) (momentsIn task) j ∷ []))
         unfolding totalsOf
         totals-next =
-            let f : length (allTimes (framesOf task j ++ (nextFrames (circuitIn task) j ∷ []))) ≡ t′ .frames = omega (arith, total-next, st .frames-sum, own-length) in
-            let w : length (allFanins (framesOf task j ++ (nextFrames (circuitIn task) j ∷ []))) ≡ t′ .fanins = fanins-next ∙ sym (st .fanins-sum ∙ rw own-length) in
-            rw (f, w, times-snoc (framesOf task j) (nextFrames (circuitIn task) j), ← last-next)
+            let f : length (allTimes (framesOf task j ++ (nextFrames (circuitIn task) (momentsIn task) j ∷ []))) ≡ t′ .frames = omega (arith, total-next, st .frames-sum, own-length) in
+            let w : length (allFanins (framesOf task j ++ (nextFrames (circuitIn task) (momentsIn task) j ∷ []))) ≡ t′ .fanins = fanins-next ∙ sym (st .fanins-sum ∙ rw own-length) in
+            rw (f, w, times-snoc (framesOf task j) (nextFrames (circuitIn task) (momentsIn task) j), ← last-next)
 
         stepped : Going task (j + 1) a′ t′
         stepped =
             let next = nets-next task (given .read) j l in
             record {
-              is = rw next (laid-snoc (framesOf task j) (nextFrames (circuitIn task) j) (go .is) behind room-next (nets-sized task (given .read) j (omega arith) .even) (next-even (circuitIn task) j));
+              is = rw next (laid-snoc (framesOf task j) (nextFrames (circuitIn task) (momentsIn task) j) (go .is) behind room-next (nets-sized task (given .read) j (omega arith) .even) (next-even (circuitIn task) (momentsIn task) j));
               totals = rw next totals-next;
               fit = rw next fit-next;
             }
@@ -270,4 +274,4 @@ room-alike : {fs : List Frames} {a a′ : Areas} → Room fs a → Alike a a′ 
 room-alike r l = record { directory = rw (l .directory) (r .directory); times = rw (l .times) (r .times); inertial = rw (l .inertial) (r .inertial); fanins = rw (l .fanins) (r .fanins) }
 
 pub given-alike : {task : Task} {a a′ : Areas} → Given task a → Alike a a′ → Given task a′
-given-alike g l = record { read = g .read; room = λ j h e. room-alike (g .room j h e) l }
+given-alike g l = record { read = g .read; suits = g .suits; room = λ j h e. room-alike (g .room j h e) l }

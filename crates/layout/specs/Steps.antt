@@ -1,29 +1,47 @@
 -- What the functions of this crate ask for and promise, gate by gate.
-use Prim.Native.Nat.{ℕ, _≤_}
+use Prim.Native.Nat.{ℕ, _+_, _*_, _≤_}
 use mathlib.Core.Path.{_≡_}
 use mathlib.Core.Bool.{true, false}
 use mathlib.Core.List.{List}
+use lib.ListN.{length}
 use Rattle.lists.specs.Ladder.{accepted}
 use Rattle.method.specs.Frames.{Frames, frames}
-use Rattle.method.specs.First.{firstGates, Room}
+use Rattle.method.specs.Stimulus.{Moments}
+use Rattle.method.specs.Changes.{Schedule, changesSuit}
+use Rattle.method.specs.First.{firstGates, inputsOnly, Room, Inputs}
 use Rattle.method.specs.Areas.{Areas, allCleared}
 use Rattle.method.specs.Layout.{laid}
 use Rattle.method.specs.Sums.{fits, totalsOf}
 use Rattle.method.specs.declared.Totals.{Totals}
+use Rattle.circuit.specs.Limits.{mostInputs}
 use Rattle.circuit.specs.File.{inputsOf, gatesOf}
 use Rattle.circuit.specs.Questions.{readOf}
-use Rattle.circuit.specs.Task.{Task, circuitIn, framesIn}
+use Rattle.circuit.specs.Task.{Task, circuitIn, momentsIn, framesIn}
 use Rattle.layout.specs.declared.Progress.{Progress}
 use Rattle.layout.specs.declared.Progress.the-variants as P
 
 -- the frames of the inputs and the first j gates
 abbrev pub framesOf : Task → ℕ → List Frames
-framesOf task j = frames (firstGates j (circuitIn task))
+framesOf task j = frames (firstGates j (circuitIn task)) (momentsIn task)
 
--- an accepted file, and areas that are long enough for as many of its gates as have not too many frames
+-- an accepted file, change times that suit it, and areas that are long enough for as many of its gates as have not too many
+-- frames
 pub record Given (task : Task) (a : Areas) : Type 0 where
   pub read : readOf (task .file) ≡ accepted (record { inputs = inputsOf (task .file); gates = gatesOf (task .file) })
+  pub suits : changesSuit (inputsOf (task .file)) (task .schedule) ≡ true
   pub room : (j : ℕ) → j ≤ gatesOf (task .file) → fits (framesOf task j) ≡ true → Room (framesOf task j) a
+
+-- change times that suit as many inputs as there are counts, and areas that are long enough for the inputs' frames
+pub record Open (h : Schedule) (d t : List ℕ) : Type 0 where
+  pub suits : changesSuit (length (h .counts)) h ≡ true
+  pub few : length (h .counts) ≤ mostInputs
+  pub directory : 2 * length (h .counts) ≤ length d
+  pub times : length (h .counts) + length (h .times) ≤ length t
+
+-- n inputs are planned, in areas of zeros
+pub record Begun (m : Moments) (n : ℕ) (d t : List ℕ) (totals : Totals) : Type 0 where
+  pub written : Inputs m d t n
+  pub totals-are : totals ≡ totalsOf (inputsOnly m n)
 
 -- the inputs and j gates are planned
 pub record Going (task : Task) (j : ℕ) (a : Areas) (t : Totals) : Type 0 where

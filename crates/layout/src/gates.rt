@@ -23,6 +23,8 @@ const GATHERED_LENGTH: usize = MOST_FANINS * MOST_NET_FRAMES + 2;
 // Plans the gates, until one shows that there are too many frames.
 pub(crate) fn add_gates(
     file: &[u8],
+    counts: &[u8],
+    changes: &[Tick],
     inputs: u16,
     gates: u16,
     directory: &mut [u16],
@@ -31,9 +33,9 @@ pub(crate) fn add_gates(
     fanins: &mut [u16],
     start: Totals,
 ) -> Progress
-    requires { ⌜ Given (taskOf (now file)) (areas (now directory) (now times) (now inertial) (now fanins)) × (inputs ≡ inputsOf (now file)) × (gates ≡ gatesOf (now file)) ⌝ }
-    requires { ⌜ Going (taskOf (now file)) 0 (areas (now directory) (now times) (now inertial) (now fanins)) start ⌝ }
-    ensures { λ r. ⌜ Reached (taskOf (now (file .entry))) gates (areas (now (directory .exit)) (now (times .exit)) (now (inertial .exit)) (now (fanins .exit))) r ⌝ }
+    requires { ⌜ Given (taskOf (now file) (now counts) (now changes)) (areas (now directory) (now times) (now inertial) (now fanins)) × (inputs ≡ inputsOf (now file)) × (gates ≡ gatesOf (now file)) ⌝ }
+    requires { ⌜ Going (taskOf (now file) (now counts) (now changes)) 0 (areas (now directory) (now times) (now inertial) (now fanins)) start ⌝ }
+    ensures { λ r. ⌜ Reached (taskOf (now (file .entry)) (now (counts .entry)) (now (changes .entry))) gates (areas (now (directory .exit)) (now (times .exit)) (now (inertial .exit)) (now (fanins .exit))) r ⌝ }
 {
     let mut totals = start;
     let mut j: u16 = 0;
@@ -41,6 +43,8 @@ pub(crate) fn add_gates(
         let net = Net(inputs + j);
         let Progress::Planned(t) = add_gate(
             file,
+            counts,
+            changes,
             j,
             net,
             directory,
@@ -60,6 +64,8 @@ pub(crate) fn add_gates(
 // Plans gate j, which drives `net`, after the nets before it, unless there are too many frames.
 fn add_gate(
     file: &[u8],
+    counts: &[u8],
+    changes: &[Tick],
     j: u16,
     net: Net,
     directory: &mut [u16],
@@ -68,9 +74,9 @@ fn add_gate(
     fanins: &mut [u16],
     totals: Totals,
 ) -> Progress
-    requires { ⌜ Given (taskOf (now file)) (areas (now directory) (now times) (now inertial) (now fanins)) × (j < gatesOf (now file)) × (net .0 ≡ inputsOf (now file) + j) ⌝ }
-    requires { ⌜ Going (taskOf (now file)) j (areas (now directory) (now times) (now inertial) (now fanins)) totals ⌝ }
-    ensures { λ r. ⌜ Reached (taskOf (now (file .entry))) (j + 1) (areas (now (directory .exit)) (now (times .exit)) (now (inertial .exit)) (now (fanins .exit))) r ⌝ }
+    requires { ⌜ Given (taskOf (now file) (now counts) (now changes)) (areas (now directory) (now times) (now inertial) (now fanins)) × (j < gatesOf (now file)) × (net .0 ≡ inputsOf (now file) + j) ⌝ }
+    requires { ⌜ Going (taskOf (now file) (now counts) (now changes)) j (areas (now directory) (now times) (now inertial) (now fanins)) totals ⌝ }
+    ensures { λ r. ⌜ Reached (taskOf (now (file .entry)) (now (counts .entry)) (now (changes .entry))) (j + 1) (areas (now (directory .exit)) (now (times .exit)) (now (inertial .exit)) (now (fanins .exit))) r ⌝ }
 {
     let gate = circuit::gate_at(file, j);
     let first = totals.frames;

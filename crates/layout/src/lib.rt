@@ -1,20 +1,16 @@
 // The frames of every net of a circuit, laid out in areas. An inner crate: its functions ask their caller for what they need.
 ghost use mathlib.Core.Path.{_≡_};
-ghost use Prim.Native.Nat.{_*_, _≤_};
-ghost use lib.ListN.{length};
 ghost use Rattle.circuit.specs.File.{inputsOf, gatesOf};
 ghost use Rattle.circuit.specs.Task.{taskOf};
-ghost use Rattle.circuit.specs.Limits.{mostInputs};
 ghost use Rattle.method.specs.Areas.{areas, allCleared};
-ghost use Rattle.method.specs.Sums.{totalsOf};
-ghost use Rattle.method.specs.First.{inputsOnly, Inputs};
 ghost use Rattle.layout.specs.Steps.{Given, Filled};
 
 mod gates;
+mod inputs;
 
 use gates::add_gates;
+use inputs::add_inputs;
 use method::Tick;
-use method::Time;
 use method::Totals;
 
 // A gate has at most this many fan-in entries.
@@ -30,6 +26,8 @@ pub enum Progress {
 // is behind the last frame has to be 0 and a gate is stored behind those before it.
 pub fn fill(
     file: &[u8],
+    counts: &[u8],
+    changes: &[Tick],
     inputs: u16,
     gates: u16,
     directory: &mut [u16],
@@ -37,13 +35,15 @@ pub fn fill(
     inertial: &mut [u16],
     fanins: &mut [u16],
 ) -> Progress
-    requires { ⌜ Given (taskOf (now file)) (areas (now directory) (now times) (now inertial) (now fanins)) × (inputs ≡ inputsOf (now file)) × (gates ≡ gatesOf (now file)) ⌝ }
-    ensures { λ r. ⌜ Filled (taskOf (now (file .entry))) (areas (now (directory .entry)) (now (times .entry)) (now (inertial .entry)) (now (fanins .entry))) (areas (now (directory .exit)) (now (times .exit)) (now (inertial .exit)) (now (fanins .exit))) r ⌝ }
+    requires { ⌜ Given (taskOf (now file) (now counts) (now changes)) (areas (now directory) (now times) (now inertial) (now fanins)) × (inputs ≡ inputsOf (now file)) × (gates ≡ gatesOf (now file)) ⌝ }
+    ensures { λ r. ⌜ Filled (taskOf (now (file .entry)) (now (counts .entry)) (now (changes .entry))) (areas (now (directory .entry)) (now (times .entry)) (now (inertial .entry)) (now (fanins .entry))) (areas (now (directory .exit)) (now (times .exit)) (now (inertial .exit)) (now (fanins .exit))) r ⌝ }
 {
     clear_all(directory, times, inertial, fanins);
-    let start = add_inputs(directory, times, inputs);
+    let start = add_inputs(counts, changes, directory, times);
     let Progress::Planned(totals) = add_gates(
         file,
+        counts,
+        changes,
         inputs,
         gates,
         directory,
@@ -65,26 +65,4 @@ fn clear_all(directory: &mut [u16], times: &mut [Tick], inertial: &mut [u16], fa
     clearing::clear_ticks(times);
     clearing::clear(inertial);
     clearing::clear(fanins);
-}
-
-// Writes the pairs and the times of the inputs into areas of zeros, and answers their totals. Their inertial indices are 0,
-// and they have no fan-in rows.
-fn add_inputs(directory: &mut [u16], times: &mut [Tick], inputs: u16) -> Totals
-    requires { ⌜ (1 ≤ inputs) × (inputs ≤ mostInputs) × (2 * inputs ≤ length (now directory)) × (2 * inputs ≤ length (now times)) × Inputs (now directory) (now times) 0 ⌝ }
-    ensures { λ r. ⌜ Inputs (now (directory .exit)) (now (times .exit)) inputs × (r ≡ totalsOf (inputsOnly inputs)) ⌝ }
-{
-    let mut n: u16 = 0;
-    while n < inputs {
-        let at = 2 * (n as usize);
-        directory[at] = 2 * n;
-        directory[at + 1] = 2;
-        times[at] = 0;
-        times[at + 1] = 1;
-        n += 1;
-    }
-    Totals {
-        frames: 2 * inputs,
-        fanins: 0,
-        last: Time(1),
-    }
 }

@@ -73,7 +73,7 @@ module _ (task : Task) (w : WordLists) (a : Areas) (suit : Bool) where
   unfolding steps.askedOf
   answers e = rw e
 
-  -- 1 to 12 write nothing
+  -- all but 13 write nothing
   unwritten : {n : ℕ} → firstNo (askedWith task (lengthsOf w) a suit) ≡ n → left n ≡ a → steps.asked n a ≡ steps.askedOf task w a suit
   unwritten {n} e l = sym (answers e ∙ ap (steps.asked n) l)
 

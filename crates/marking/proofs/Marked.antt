@@ -37,7 +37,7 @@ use Rattle.marking.proofs.Searching.{searched-is}
 
 -- ---- the nets that the list needs
 
--- where 1 to 11 are answered yes, question 12 is whether there are as many
+-- where those before it are answered yes, question 12 is whether there are as many
 needs-asked : (task : Task) (l : Lengths) (a : Areas) → firstNo (firstQuestions task l a) ≡ 0 → (list : List Expectation)
     → listSuits (netsIn task) list ≡ leb (netsNeeded list) (netsIn task)
 unfolding readOf inputsAndGatesOf

@@ -12,11 +12,10 @@ use lib.Seq.{drop-cons}
 use Rattle.lists.specs.Tables.{every}
 use Rattle.lists.proofs.Choices.{and-left, and-right}
 use Rattle.method.specs.Words.{lane}
-use Rattle.method.proofs.Tracing.{value-each}
-use Rattle.method.proofs.Lanes.{in-lanes}
+use Rattle.method.proofs.Lanes.{in-lanes, lane-each}
 use Rattle.method.specs.Layout.{frameCount, partOf}
 use Rattle.method.specs.WordLists.{WordLists}
-use Rattle.circuit.specs.Task.{Task, circuitIn, netsIn, timesIn, stimuliIn, laneValues}
+use Rattle.circuit.specs.Task.{Task, circuitIn, momentsIn, netsIn, timesIn, laneValues}
 use Rattle.looks.specs.Sight.{endBy, sightAt}
 use Rattle.engine.specs.Areas.{Areas}
 use Rattle.engine.specs.After.{After}
@@ -69,9 +68,9 @@ module _ (task : Task) (w : WordLists) {b : Areas} (h : After task w b) where
       let count : frameCount d n ≡ length (timesIn task n) = h .count-is n below in
       frames-are d (b .plan .times) (b .values) e (timesIn task n) (laneValues task w (e .lane) n)
       (h .times-are n below)
-      (ap (map (lane (e .lane))) (h .values-are n below) ∙ in-lanes .own-values (circuitIn task) w (e .lane) (lane-below (netsIn task) e y) n)
+      (ap (map (lane (e .lane))) (h .values-are n below) ∙ in-lanes .own-values (circuitIn task) (momentsIn task) w (e .lane) (lane-below (netsIn task) e y) n)
       (sym count)
-      (value-each (circuitIn task) (stimuliIn task w (e .lane)) n ∙ sym count)
+      (lane-each (circuitIn task) (momentsIn task) w (e .lane) n ∙ sym count)
       i
       (frameCount d n)
       0

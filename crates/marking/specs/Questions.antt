@@ -1,4 +1,4 @@
--- Mark's questions in their order: Run's 1 to 11, then 12, then 13.
+-- Mark's questions in their order: Run's 1 to 11 and 20, then 12, then 13.
 use mathlib.Core.Bool.{Bool}
 use mathlib.Core.List.{List, _∷_, _++_}
 use Rattle.lists.specs.Ladder.{Question, _orElse_}
@@ -10,7 +10,7 @@ use Rattle.engine.specs.Questions.{firstQuestions}
 use Rattle.expectations.specs.declared.Expectation.{Expectation}
 use Rattle.expectations.specs.Suits.{listSuits}
 
--- 1 to 11, then 12, where `suit` is its answer, then 13
+-- 1 to 11 and 20, then 12, where `suit` is its answer, then 13
 unfoldable pub askedWith : Task → Lengths → Areas → Bool → List Question
 askedWith task l a suit = firstQuestions task l a ++ ((suit orElse 12) ∷ lastQuestion task)
 

@@ -9,10 +9,12 @@ use circuit::Reading;
 use method::Tick;
 use planner::Planning;
 
-// Questions 1 to 11, then 12, whether there are as many nets as the list needs, then Run with 13: the number of the first
-// "no", or 0. The areas that the search reads afterwards are lent for the call alone, 'w.
+// Questions 1 to 11 and 20, then 12, whether there are as many nets as the list needs, then Run with 13: the number of the
+// first "no", or 0. The areas that the search reads afterwards are lent for the call alone, 'w.
 pub(crate) fn run_asked<'w, 'a>(
     file: &'a [u8],
+    counts: &'a [u8],
+    changes: &'a [Tick],
     directory: &'w mut [u16],
     times: &'w mut [Tick],
     inertial: &'a mut [u16],
@@ -22,10 +24,12 @@ pub(crate) fn run_asked<'w, 'a>(
     after: &'a [u64],
     needed: u32,
 ) -> u8
-    ensures { λ r. ⌜ asked r (areas (now (directory .exit)) (now (times .exit)) (now (inertial .exit)) (now (fanins .exit)) (now (values .exit))) ≡ askedOf (taskOf (now (file .entry))) (wordLists (now (before .entry)) (now (after .entry))) (areas (now (directory .entry)) (now (times .entry)) (now (inertial .entry)) (now (fanins .entry)) (now (values .entry))) (leb needed (netsIn (taskOf (now (file .entry))))) ⌝ }
+    ensures { λ r. ⌜ asked r (areas (now (directory .exit)) (now (times .exit)) (now (inertial .exit)) (now (fanins .exit)) (now (values .exit))) ≡ askedOf (taskOf (now (file .entry)) (now (counts .entry)) (now (changes .entry))) (wordLists (now (before .entry)) (now (after .entry))) (areas (now (directory .entry)) (now (times .entry)) (now (inertial .entry)) (now (fanins .entry)) (now (values .entry))) (leb needed (netsIn (taskOf (now (file .entry)) (now (counts .entry)) (now (changes .entry))))) ⌝ }
 {
     let nets = match engine::questions(
         file,
+        counts,
+        changes,
         directory,
         times,
         inertial,
@@ -44,6 +48,8 @@ pub(crate) fn run_asked<'w, 'a>(
     }
     match engine::run(
         file,
+        counts,
+        changes,
         directory,
         times,
         inertial,

@@ -16,10 +16,12 @@ use expectations::needs::nets_needed;
 use expectations::search::first_unmet;
 use method::Tick;
 
-// Runs the circuit of the file as Run does, and marks the run: questions 1 to 11, then 12, then 13. The areas are left as
-// Run leaves them, whatever the verdict. Proved by hand, as the list is lent.
+// Runs the circuit of the file as Run does, and marks the run: questions 1 to 11, then 20, 12 and 13. The areas are left as Run
+// leaves them, whatever the verdict. Proved by hand, as the list is lent.
 pub fn mark<'a>(
     file: &'a [u8],
+    counts: &'a [u8],
+    changes: &'a [Tick],
     directory: &'a mut [u16],
     times: &'a mut [Tick],
     inertial: &'a mut [u16],
@@ -29,12 +31,14 @@ pub fn mark<'a>(
     after: &'a [u64],
     expectations: &'a [Expectation],
 ) -> Marking
-    ensures { λ r. ⌜ outcome (onPaper r) (areas (now (directory .exit)) (now (times .exit)) (now (inertial .exit)) (now (fanins .exit)) (now (values .exit))) ≡ markOf (taskOf (now (file .entry))) (wordLists (now (before .entry)) (now (after .entry))) (areas (now (directory .entry)) (now (times .entry)) (now (inertial .entry)) (now (fanins .entry)) (now (values .entry))) (now (expectations .entry)) ⌝ }
+    ensures { λ r. ⌜ outcome (onPaper r) (areas (now (directory .exit)) (now (times .exit)) (now (inertial .exit)) (now (fanins .exit)) (now (values .exit))) ≡ markOf (taskOf (now (file .entry)) (now (counts .entry)) (now (changes .entry))) (wordLists (now (before .entry)) (now (after .entry))) (areas (now (directory .entry)) (now (times .entry)) (now (inertial .entry)) (now (fanins .entry)) (now (values .entry))) (now (expectations .entry)) ⌝ }
 {
     // the list is walked first: so the areas are lent to be written once, for all questions and the run
     let needed = nets_needed(expectations);
     let fault = run_asked(
         file,
+        counts,
+        changes,
         directory,
         times,
         inertial,

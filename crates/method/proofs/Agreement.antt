@@ -6,7 +6,7 @@ use mathlib.Core.Logic.{inl, inr, _≢_}
 use mathlib.Core.Bool.{true}
 use Rattle.lists.proofs.Choices.{either}
 use Rattle.method.specs.Circuit.{Circuit}
-use Rattle.method.specs.Stimulus.{Stimuli}
+use Rattle.method.specs.Stimulus.{Stimuli, momentsOf, Ordered}
 use Rattle.method.specs.Frames.{framesAt}
 use Rattle.method.specs.Traces.{traceAt}
 use Rattle.method.specs.Look.{changes}
@@ -17,19 +17,19 @@ use Rattle.method.proofs.Following.{follows, level-follows}
 use Rattle.method.proofs.Planned.{frames-are, times-start, times-end}
 use Rattle.method.proofs.Counting.{counted}
 
-module _ (c : Circuit) (s : Stimuli) (n : ℕ) where
+module _ (c : Circuit) (s : Stimuli) (o : Ordered (momentsOf s)) (n : ℕ) where
   level-is : (t : ℕ) → levelAt c s n t ≡ machine c s n t
-  level-is t = rw (frames-are c s n) (level-follows (traceAt c s n) (machine c s n) (follows c s n) t)
+  level-is t = rw (frames-are c s n) (level-follows (traceAt c s n) (machine c s n) (follows c s o n) t)
 
-  only-at : (t : ℕ) → levelAt c s n (suc t) ≢ levelAt c s n t → potential c n (suc t) ≡ true
+  only-at : (t : ℕ) → levelAt c s n (suc t) ≢ levelAt c s n t → potential c (momentsOf s) n (suc t) ≡ true
   only-at t d =
-      elim (either (potential c n (suc t))) [
+      elim (either (potential c (momentsOf s) n (suc t))) [
         | inl e ↦ e
-        | inr e ↦ absurd (d (level-is (suc t) ∙ follows c s n .steady t zero-le (rw (frames-are c s n) at e) ∙ sym (level-is t)))
+        | inr e ↦ absurd (d (level-is (suc t) ∙ follows c s o n .steady t zero-le (rw (frames-are c s n) at e) ∙ sym (level-is t)))
       ]
 
-  count-is : (end : ℕ) → ((t : ℕ) → potential c n t ≡ true → t ≤ end) → changes (traceAt c s n .values) ≡ changedTimes (machine c s n) end
-  count-is end k = rw (follows c s n .samples) (counted (machine c s n) end (traceAt c s n .frames .times) (follows c s n .starts) (follows c s n .steady) (rw (frames-are c s n) at k))
+  count-is : (end : ℕ) → ((t : ℕ) → potential c (momentsOf s) n t ≡ true → t ≤ end) → changes (traceAt c s n .values) ≡ changedTimes (machine c s n) end
+  count-is end k = rw (follows c s o n .samples) (counted (machine c s n) end (traceAt c s n .frames .times) (follows c s o n .starts) (follows c s o n .steady) (rw (frames-are c s n) at k))
 
 pub agreement : Agreement
 agreement =
@@ -38,6 +38,6 @@ agreement =
       changes-at-times = only-at;
       count-is-machine = count-is;
       frames-alone = λ c s n. sym (frames-are c s n);
-      times-rise = λ c n. starts-test (framesAt c n .times) (times-start c n);
-      times-bounded = λ c most small n. times-end most c small n;
+      times-rise = λ c m o n. starts-test (framesAt c m n .times) (times-start c m o n);
+      times-bounded = λ c m last most ends small n. times-end last most c m ends small n;
     }

@@ -1,7 +1,7 @@
 -- Question 13: what it says of the nets, a net more, and that once the first gates have too many frames, so has the circuit.
 -- Assumes nothing.
-use Prim.Native.Nat.{ℕ, zero, suc, _+_, _-_, _*_, _≤_, _<_}
-use mathlib.Core.Path.{_≡_, refl, sym, _∙_}
+use Prim.Native.Nat.{ℕ, zero, suc, _+_, _-_, _≤_, _<_}
+use mathlib.Core.Path.{_≡_, sym, _∙_}
 use mathlib.Core.Logic.{inl, inr}
 use mathlib.Core.Bool.{Bool, true, false, _&&_, false≢true}
 use mathlib.Core.List.{List, [], _∷_, _++_, map}
@@ -10,14 +10,16 @@ use native.Mathlib.Nat.{suc-add}
 use lib.Dec.{leb}
 use lib.ListN.{length, getD}
 use borrow.Author.Tests.{le-leb, leb-true}
-use Rattle.lists.specs.Tables.{tabulateFrom, every}
+use Rattle.lists.specs.Tables.{every}
 use Rattle.lists.proofs.Choices.{either, and-left, and-right, and-both}
-use Rattle.lists.proofs.Tabled.{every-snoc, every-at}
+use Rattle.lists.proofs.Tabled.{from-every, every-snoc, every-at}
 use Rattle.method.specs.Circuit.{Circuit}
+use Rattle.method.specs.Stimulus.{Moments}
 use Rattle.method.specs.Frames.{Frames, inputFrames, noFrames, frames}
 use Rattle.method.specs.Limits.{mostNetFrames, mostTotalFrames}
 use Rattle.method.specs.Layout.{allTimes}
 use Rattle.method.specs.Sums.{fits}
+use Rattle.method.specs.Packed.{changesBefore}
 use Rattle.method.specs.First.{firstGates, inputsOnly}
 use Rattle.method.proofs.Laying.{total-more, inputs-frames}
 use Rattle.method.proofs.Prefix.{nextFrames, frames-next}
@@ -45,13 +47,10 @@ refuted : (b : Bool) → (b ≡ true → ⊥) → b ≡ false
 refuted b h = elim (either b) [ inl e ↦ absurd (h e) | inr e ↦ e ]
 
 -- the inputs alone
-small-inputs : (n j : ℕ) → every (map small (tabulateFrom n j (λ (i : ℕ). inputFrames))) ≡ true
-unfolding tabulateFrom
-small-inputs zero j = refl
-small-inputs (suc n) j = small-inputs n (suc j)
-
-pub fits-inputs : (n : ℕ) → 2 * n ≤ mostTotalFrames → fits (inputsOnly n) ≡ true
-fits-inputs n h = fits-yes (inputsOnly n) (small-inputs n 0) (rw (inputs-frames n) h)
+pub fits-inputs : (m : Moments) (n : ℕ) → ((i : ℕ) → 1 + length (m i) ≤ mostNetFrames) → n + changesBefore m n ≤ mostTotalFrames → fits (inputsOnly m n) ≡ true
+fits-inputs m n few h =
+    fits-yes (inputsOnly m n) (from-every small (λ (i : ℕ). inputFrames (m i)) n 0 (λ i a b. le-leb (length (0 ∷ m i)) mostNetFrames (omega (arith, few i))))
+    (rw (inputs-frames m n) h)
 
 -- ---- a net more
 
@@ -78,15 +77,15 @@ module _ (fs : List Frames) (x : Frames) where
 
 -- ---- later gates add frames only
 
-fits-first : (c : Circuit) (j n : ℕ) → n + j ≤ length (c .gates) → fits (frames (firstGates (n + j) c)) ≡ true → fits (frames (firstGates j c)) ≡ true
-fits-first c j zero h e = rw (let q : 0 + j ≡ j = omega arith in q) at e
-fits-first c j (suc n) h e =
-    let e′ : fits (frames (firstGates (n + j) c) ++ (nextFrames c (n + j) ∷ [])) ≡ true = rw (suc-add n j, frames-next c (n + j) (omega arith)) at e in
-    fits-first c j n (omega arith) (fits-before (frames (firstGates (n + j) c)) (nextFrames c (n + j)) e′)
+fits-first : (c : Circuit) (m : Moments) (j n : ℕ) → n + j ≤ length (c .gates) → fits (frames (firstGates (n + j) c) m) ≡ true → fits (frames (firstGates j c) m) ≡ true
+fits-first c m j zero h e = rw (let q : 0 + j ≡ j = omega arith in q) at e
+fits-first c m j (suc n) h e =
+    let e′ : fits (frames (firstGates (n + j) c) m ++ (nextFrames c m (n + j) ∷ [])) ≡ true = rw (suc-add n j, frames-next c m (n + j) (omega arith)) at e in
+    fits-first c m j n (omega arith) (fits-before (frames (firstGates (n + j) c) m) (nextFrames c m (n + j)) e′)
 
-pub gave-up : (c : Circuit) (j k : ℕ) → fits (frames (firstGates j c)) ≡ false → j ≤ k → k ≤ length (c .gates) → fits (frames (firstGates k c)) ≡ false
-gave-up c j k n h l =
-    refuted (fits (frames (firstGates k c))) (λ e.
+pub gave-up : (c : Circuit) (m : Moments) (j k : ℕ) → fits (frames (firstGates j c) m) ≡ false → j ≤ k → k ≤ length (c .gates) → fits (frames (firstGates k c) m) ≡ false
+gave-up c m j k n h l =
+    refuted (fits (frames (firstGates k c) m)) (λ e.
     let q : k ≡ (k - j) + j = omega arith in
-    let f : fits (frames (firstGates j c)) ≡ true = fits-first c j (k - j) (omega arith) (rw q at e) in
+    let f : fits (frames (firstGates j c) m) ≡ true = fits-first c m j (k - j) (omega arith) (rw q at e) in
     false≢true (sym n ∙ f))

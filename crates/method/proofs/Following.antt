@@ -1,10 +1,10 @@
 -- The relation of the main theorem: a net's trace follows a wave if its values are the wave's at the net's times and the wave
 -- changes nowhere else. Inputs follow theirs, a gate follows its own if its fan-ins follow theirs, so all nets do.
 -- Assumes nothing.
-use Prim.Native.Nat.{ℕ, zero, suc, _+_, _-_, zero-le}
+use Prim.Native.Nat.{ℕ, suc, _+_, _-_, zero-le}
 use mathlib.Core.Path.{_≡_, refl, sym, ap, ap₂, _∙_, fun-ext}
 use mathlib.Core.Logic.{inl, inr}
-use mathlib.Core.Bool.{Bool, false, true≢false}
+use mathlib.Core.Bool.{Bool, true, false}
 use mathlib.Core.List.{List, _∷_, map, flatMap, zipWith, map-map, Forall₂, Forall₂·nil, Forall₂·cons}
 use native.Mathlib.Omega.{arith}
 use lib.Dec.{eqb}
@@ -12,8 +12,8 @@ use lib.ListN.{getD}
 use Rattle.lists.proofs.Choices.{order, or-left, or-right}
 use Rattle.method.specs.Kinds.{gateFn}
 use Rattle.method.specs.Circuit.{Gate, Circuit}
-use Rattle.method.specs.Stimulus.{Stimulus, Stimuli}
-use Rattle.method.specs.Times.{inputTimes, shifted, rising, gateTimes, among}
+use Rattle.method.specs.Stimulus.{Stimulus, Stimuli, changeTimes, momentsOf, Ordered}
+use Rattle.method.specs.Times.{riseAbove, shifted, rising, gateTimes, among}
 use Rattle.method.specs.Indices.{faninIndex, inertialIndices}
 use Rattle.method.specs.Frames.{Frames, faninRow, framesWith, gateFrames}
 use Rattle.method.specs.Filter.{filtered}
@@ -21,10 +21,11 @@ use Rattle.method.specs.Traces.{Trace, inputTrace, rawValue, gateTrace, 
 use Rattle.method.specs.Look.{level}
 use Rattle.method.specs.Machine.{Wave, inputWave, rawWave, outWave, gateWave, noWave, waves, machine}
 use Rattle.method.proofs.Nets.{nets-rel}
-use Rattle.method.proofs.Rising.{Starts, rising-among, amongSome, all-shifted-among, gateTimes-start}
+use Rattle.method.proofs.Rising.{Rise, Starts, test-rise, rising-among, amongSome, all-shifted-among, gateTimes-start}
 use Rattle.method.proofs.Lasting.{index-last}
 use Rattle.method.proofs.Waves.{Steady, level-sample}
 use Rattle.method.proofs.Filtering.{out-steady, filter-samples}
+use Rattle.method.proofs.Inputs.{input-steady, input-samples}
 
 pub record Follows (n : Trace) (w : Wave) : Type 0 where
   pub starts : Starts (n .frames .times)
@@ -103,17 +104,14 @@ gate-follows g ns ws r =
 
 -- ---- the inputs, and all nets
 
-input-steady : (s : Stimulus) → Steady 0 inputTimes (inputWave s)
-input-steady s zero h e = absurd (true≢false e)
-input-steady s (suc u) h e = refl
-
-input-follows : (s : Stimulus) → Follows (inputTrace s) (inputWave s)
-input-follows s = record { starts = (refl, (omega arith, tt)); steady = input-steady s; samples = refl }
+input-follows : (s : Stimulus) → riseAbove 0 (changeTimes s) ≡ true → Follows (inputTrace s) (inputWave s)
+input-follows s h =
+    let r : Rise 0 (changeTimes s) = test-rise 0 (changeTimes s) h in record { starts = (refl, r); steady = input-steady s; samples = input-samples s r }
 
 pub none-follows : Follows noTrace noWave
 none-follows = record { starts = (refl, tt); steady = λ u h e. refl; samples = refl }
 
-module _ (c : Circuit) (s : Stimuli) where
+module _ (c : Circuit) (s : Stimuli) (o : Ordered (momentsOf s)) where
   pub follows : (n : ℕ) → Follows (traceAt c s n) (machine c s n)
   unfolding traces waves
-  follows = nets-rel Follows none-follows gate-follows (λ i. input-follows (s i)) c
+  follows = nets-rel Follows none-follows gate-follows (λ i. input-follows (s i) (o i)) c

@@ -17,7 +17,9 @@ use Rattle.lists.proofs.Padding.{pad-length, pad-more}
 use Rattle.method.specs.Frames.{Frames, inputFrames, noFrames}
 use Rattle.method.specs.Areas.{Areas, areas}
 use Rattle.method.specs.Layout.{allTimes, allInertial, allFanins, pairs, laid, partOf, firstFrame, frameCount}
+use Rattle.method.specs.Stimulus.{Moments}
 use Rattle.method.specs.First.{inputsOnly, Room, Inputs}
+use Rattle.method.specs.Packed.{changesBefore}
 
 pub pair-stored : (d : List ℕ) (net first count : ℕ) → set (set d (2 * net) first) (2 * net + 1) count ≡ sets d (2 * net) (first ∷ count ∷ [])
 pair-stored d net first count = rw (add-one (2 * net))
@@ -213,47 +215,49 @@ laid-snoc fs x {a} {a′} is b r even even′ =
 
 -- ---- the inputs
 
-one-more : (n : ℕ) → inputsOnly (suc n) ≡ inputsOnly n ++ (inputFrames ∷ [])
-one-more n = tabulate-snoc n (λ (i : ℕ). inputFrames)
+module _ (m : Moments) where
+  one-more : (n : ℕ) → inputsOnly m (suc n) ≡ inputsOnly m n ++ (inputFrames (m n) ∷ [])
+  one-more n = tabulate-snoc n (λ (i : ℕ). inputFrames (m i))
 
-pub inputs-count : (n : ℕ) → length (inputsOnly n) ≡ n
-inputs-count n = from-length n 0 (λ (i : ℕ). inputFrames)
+  pub inputs-count : (n : ℕ) → length (inputsOnly m n) ≡ n
+  inputs-count n = from-length n 0 (λ (i : ℕ). inputFrames (m i))
 
-frames-from : (n j : ℕ) → length (allTimes (tabulateFrom n j (λ (i : ℕ). inputFrames))) ≡ 2 * n
-unfolding flatMap tabulateFrom
-frames-from zero j = refl
-frames-from (suc n) j = omega (arith, frames-from n (suc j))
+  inputs-pairs : (n : ℕ) → length (pairs 0 (inputsOnly m n)) ≡ 2 * n
+  inputs-pairs n = pairs-length 0 (inputsOnly m n) ∙ rw (inputs-count n)
 
-pub inputs-frames : (n : ℕ) → length (allTimes (inputsOnly n)) ≡ 2 * n
-inputs-frames n = frames-from n 0
+  -- of no input there is nothing
+  pub no-pairs : pairs 0 (inputsOnly m 0) ≡ []
+  unfolding pairs tabulateFrom
+  no-pairs = refl
 
-inputs-pairs : (n : ℕ) → length (pairs 0 (inputsOnly n)) ≡ 2 * n
-inputs-pairs n = pairs-length 0 (inputsOnly n) ∙ rw (inputs-count n)
+  pub no-times : allTimes (inputsOnly m 0) ≡ []
+  unfolding flatMap tabulateFrom
+  no-times = refl
 
--- of no input there is nothing
-pub no-pairs : pairs 0 (inputsOnly 0) ≡ []
-unfolding pairs tabulateFrom
-no-pairs = refl
+  pub times-one-more : (n : ℕ) → allTimes (inputsOnly m (suc n)) ≡ allTimes (inputsOnly m n) ++ (0 ∷ m n)
+  times-one-more n = ap (λ (fs : List Frames). allTimes fs) (one-more n) ∙ times-snoc (inputsOnly m n) (inputFrames (m n))
 
-pub no-times : allTimes (inputsOnly 0) ≡ []
-unfolding flatMap tabulateFrom
-no-times = refl
+  -- a frame an input, and one a change
+  pub inputs-frames : (n : ℕ) → length (allTimes (inputsOnly m n)) ≡ n + changesBefore m n
+  inputs-frames zero = ap length no-times
+  inputs-frames (suc n) = omega (arith, ap length (times-one-more n), length-append (allTimes (inputsOnly m n)) (0 ∷ m n), inputs-frames n)
 
--- one input more is written
-pub inputs-on : {d t : List ℕ} {n : ℕ} → Inputs d t n → 2 * n + 2 ≤ length d → 2 * n + 2 ≤ length t
-    → Inputs (set (set d (2 * n) (2 * n)) (2 * n + 1) 2) (set (set t (2 * n) 0) (2 * n + 1) 1) (n + 1)
-inputs-on {d} {t} {n} i hd ht =
-    let p : pairs 0 (inputsOnly n ++ (inputFrames ∷ [])) ≡ pairs 0 (inputsOnly n) ++ (2 * n ∷ 2 ∷ []) =
-    pairs-snoc 0 (inputsOnly n) inputFrames ∙ rw (let q : 0 + length (allTimes (inputsOnly n)) ≡ 2 * n = omega (arith, inputs-frames n) in q) in
-    record {
-      pairs-are = rw (add-one n, one-more n, p) (pad-more (pairs 0 (inputsOnly n)) (2 * n ∷ 2 ∷ []) (2 * n) (i .pairs-are) (pair-stored d n (2 * n) 2) (inputs-pairs n) hd);
-      times-are = rw (add-one n, one-more n, times-snoc (inputsOnly n) inputFrames) (pad-more (allTimes (inputsOnly n)) (0 ∷ 1 ∷ []) (2 * n) (i .times-are) (pair-stored t n 0 1) (inputs-frames n) ht);
-    }
+  -- one input more is written
+  pub inputs-on : {d t : List ℕ} {n : ℕ} → Inputs m d t n → 2 * n + 2 ≤ length d → n + changesBefore m n + (1 + length (m n)) ≤ length t
+      → Inputs m (sets d (2 * n) ((n + changesBefore m n) ∷ (1 + length (m n)) ∷ [])) (sets t (n + changesBefore m n) (0 ∷ m n)) (n + 1)
+  inputs-on {d} {t} {n} i hd ht =
+      let at : ℕ = n + changesBefore m n in
+      let p : pairs 0 (inputsOnly m n ++ (inputFrames (m n) ∷ [])) ≡ pairs 0 (inputsOnly m n) ++ (at ∷ (1 + length (m n)) ∷ []) =
+      pairs-snoc 0 (inputsOnly m n) (inputFrames (m n)) ∙ rw (let q : 0 + length (allTimes (inputsOnly m n)) ≡ at = omega (arith, inputs-frames n) in q, let q : suc (length (m n)) ≡ 1 + length (m n) = omega arith in q) in
+      record {
+        pairs-are = rw (add-one n, one-more n, p) (pad-more (pairs 0 (inputsOnly m n)) (at ∷ (1 + length (m n)) ∷ []) (2 * n) (i .pairs-are) refl (inputs-pairs n) hd);
+        times-are = rw (add-one n, times-one-more n) (pad-more (allTimes (inputsOnly m n)) (0 ∷ m n) at (i .times-are) refl (inputs-frames n) (omega arith));
+      }
 
--- the inputs' areas, whole
-pub inputs-laid : (n : ℕ) {d t i f : List ℕ} → Inputs d t n → i ≡ padded (length i) (allInertial (inputsOnly n)) → f ≡ padded (length f) (allFanins (inputsOnly n))
-    → areas d t i f ≡ laid (inputsOnly n) (areas d t i f)
-inputs-laid n p a b = laid-is (inputsOnly n) (p .pairs-are) (p .times-are) a b
+  -- the inputs' areas, whole
+  pub inputs-laid : (n : ℕ) {d t i f : List ℕ} → Inputs m d t n → i ≡ padded (length i) (allInertial (inputsOnly m n)) → f ≡ padded (length f) (allFanins (inputsOnly m n))
+      → areas d t i f ≡ laid (inputsOnly m n) (areas d t i f)
+  inputs-laid n p a b = laid-is (inputsOnly m n) (p .pairs-are) (p .times-are) a b
 
 pub part-length : (d i : List ℕ) (net : ℕ) → firstFrame d net + frameCount d net ≤ length i → length (partOf d i net) ≡ frameCount d net
 unfolding partOf

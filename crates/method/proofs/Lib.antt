@@ -5,8 +5,10 @@ pub mod Rising
 pub mod Lasting
 pub mod Waves
 pub mod Filtering
+pub mod Inputs
 pub mod Following
 pub mod Planned
+pub mod Changes
 pub mod Laying
 pub mod Prefix
 pub mod Fitting
@@ -19,4 +21,7 @@ pub mod Parts
 pub mod Bits
 pub mod Parity
 pub mod Lanes
+pub mod InputWords
+pub mod Once
 pub mod Bench
+pub mod Bursts

@@ -4,7 +4,7 @@
 use Prim.Native.Nat.{ℕ, zero, suc, _+_, _-_, _*_, _≤_, zero-le}
 use mathlib.Core.Path.{_≡_, refl, sym, ap, ap₂, _∙_}
 use mathlib.Core.Logic.{inl, inr}
-use mathlib.Core.Bool.{true, false, false≢true}
+use mathlib.Core.Bool.{true, false≢true}
 use mathlib.Core.List.{List, [], _∷_, _++_, map, flatMap, Forall₂, Forall₂·nil, Forall₂·cons}
 use native.Mathlib.Omega.{arith}
 use native.Mathlib.Nat.{mul-suc, suc-mul, zero-mul, mul-le-mul-left}
@@ -16,14 +16,13 @@ use Rattle.lists.proofs.Choices.{either, order, or-cases}
 use Rattle.lists.proofs.Tabled.{from-length, tabulate-at}
 use Rattle.lists.proofs.ByNumber.{grow-each}
 use Rattle.method.specs.Circuit.{Gate, Circuit, noGate, DelaysUpTo}
-use Rattle.method.specs.Stimulus.{Stimuli}
+use Rattle.method.specs.Stimulus.{Stimuli, Moments, momentsOf, Ordered}
 use Rattle.method.specs.Times.{shifted, rising, gateTimes, among}
 use Rattle.method.specs.Indices.{faninIndex, inertialIndices}
 use Rattle.method.specs.Frames.{Frames, inputFrames, faninRow, framesWith, gateFrames, noFrames, frames, framesAt}
 use Rattle.method.specs.Traces.{Trace, inputTrace, gateTrace, noTrace, traces, traceAt}
-use Rattle.method.proofs.Nets.{nets-rel}
-use Rattle.method.proofs.Rising.{Starts, rising-among, among-append}
-use Rattle.method.proofs.Following.{follows}
+use Rattle.method.proofs.Nets.{nets-rel, nets-each}
+use Rattle.method.proofs.Rising.{Starts, test-rise, rising-among, among-append, gateTimes-start}
 
 -- ---- the frames of a trace are the circuit's
 
@@ -38,17 +37,22 @@ gate-frames : (g : Gate) (fs : List Frames) (ns : List Trace) → Forall₂ HasF
 unfolding gateTrace
 gate-frames g fs ns r = ap (gateFrames g) (all-frames r)
 
-pub frames-are : (c : Circuit) (s : Stimuli) (n : ℕ) → framesAt c n ≡ traceAt c s n .frames
+pub frames-are : (c : Circuit) (s : Stimuli) (n : ℕ) → framesAt c (momentsOf s) n ≡ traceAt c s n .frames
 unfolding frames traces
 frames-are c s n =
     nets-rel HasFrames {b = noTrace} refl {g = gateTrace} gate-frames {j = λ (i : ℕ). inputTrace (s i)} (λ i. refl) c n
 
--- ---- they start at 0 and rise, as those of any trace
+-- ---- they start at 0 and rise
 
-pub times-start : (c : Circuit) (n : ℕ) → Starts (framesAt c n .times)
-times-start c n =
-    let s : Stimuli = λ (i : ℕ). record { before = false; after = false } in
-    rw (frames-are c s n) (follows c s n .starts)
+gate-start : (g : Gate) (fs : List Frames) → Starts (gateFrames g fs .times)
+unfolding gateFrames framesWith
+gate-start g fs = gateTimes-start (g .delay) (map (λ (f : Frames). f .times) fs)
+
+pub times-start : (c : Circuit) (m : Moments) → Ordered m → (n : ℕ) → Starts (framesAt c m n .times)
+unfolding frames
+times-start c m o =
+    nets-each (λ (f : Frames). Starts (f .times)) noFrames gateFrames (λ (i : ℕ). inputFrames (m i)) (refl, tt) gate-start
+    (λ i. (refl, test-rise 0 (m i) (o i))) c
 
 -- ---- how many indices there are
 
@@ -116,13 +120,13 @@ gate-ends g end nets k =
     ends-cons (end + g .delay) 0 (rising later) zero-le
     (λ t e. all-shifted-ends (g .delay) end nets (g .fanins) k t (sym (rising-among t later) ∙ e))
 
-module _ (most : ℕ) (c : Circuit) where
+module _ (last most : ℕ) (c : Circuit) (moments : Moments) where
   -- the latest that net n gets
   abbrev latest : ℕ → ℕ
-  latest n = 1 + most * (n + 1 - c .inputs)
+  latest n = last + most * (n + 1 - c .inputs)
 
   -- one gate more
-  latest-next : (n : ℕ) → c .inputs ≤ n → 1 + most * (n - c .inputs) + most ≡ latest n
+  latest-next : (n : ℕ) → c .inputs ≤ n → last + most * (n - c .inputs) + most ≡ latest n
   latest-next n h = rw (let q : n + 1 - c .inputs ≡ suc (n - c .inputs) = omega arith in q, mul-suc most (n - c .inputs)) (omega arith)
 
   abbrev InTime : ℕ → Frames → Type 0
@@ -131,12 +135,9 @@ module _ (most : ℕ) (c : Circuit) where
   missing : (n : ℕ) → InTime n noFrames
   missing n = ends-cons (latest n) 0 [] zero-le (ends-nil (latest n))
 
-  input-in-time : (n : ℕ) → InTime n inputFrames
-  input-in-time n = ends-cons (latest n) 0 (1 ∷ []) zero-le (ends-cons (latest n) 1 [] (omega arith) (ends-nil (latest n)))
-
   -- the entries before the gate's own end in time for it
   earlier : (nets : List Frames) → c .inputs ≤ length nets → ((n : ℕ) → InTime n (getD nets n noFrames))
-      → (m : ℕ) → Ends (1 + most * (length nets - c .inputs)) (getD nets m noFrames .times)
+      → (m : ℕ) → Ends (last + most * (length nets - c .inputs)) (getD nets m noFrames .times)
   earlier nets h old m =
       elim (order (length nets) m) [
         | inl k ↦ rw (List·getD-eq-default nets noFrames {n = m} k) (ends-cons _ 0 [] zero-le (ends-nil _))
@@ -148,19 +149,26 @@ module _ (most : ℕ) (c : Circuit) where
   made : (nets : List Frames) (g : Gate) → c .inputs ≤ length nets → g .delay ≤ most → ((n : ℕ) → InTime n (getD nets n noFrames))
       → InTime (length nets) (gateFrames g (map (λ (n : ℕ). getD nets n noFrames) (g .fanins)))
   made nets g h small old t e =
-      let b : t ≤ 1 + most * (length nets - c .inputs) + g .delay = gate-ends g (1 + most * (length nets - c .inputs)) nets (earlier nets h old) t e in
-      let q : 1 + most * (length nets - c .inputs) + most ≡ latest (length nets) = latest-next (length nets) h in
+      let b : t ≤ last + most * (length nets - c .inputs) + g .delay = gate-ends g (last + most * (length nets - c .inputs)) nets (earlier nets h old) t e in
+      let q : last + most * (length nets - c .inputs) + most ≡ latest (length nets) = latest-next (length nets) h in
       omega arith
 
-  inputs-in-time : (n : ℕ) → InTime n (getD (tabulate (c .inputs) (λ (i : ℕ). inputFrames)) n noFrames)
-  inputs-in-time n =
-      elim (order (c .inputs) n) [
-        | inl k ↦ rw (List·getD-eq-default (tabulate (c .inputs) (λ (i : ℕ). inputFrames)) noFrames {n = n} (rw (from-length (c .inputs) 0 (λ (i : ℕ). inputFrames)) k)) (missing n)
-        | inr k ↦ rw (tabulate-at (c .inputs) (λ (i : ℕ). inputFrames) noFrames n k) (input-in-time n)
-      ]
+  module _ (ends : (i : ℕ) → Ends last (moments i)) where
+    abbrev inputs : List Frames
+    inputs = tabulate (c .inputs) (λ (i : ℕ). inputFrames (moments i))
 
-  pub times-end : DelaysUpTo most c → (n : ℕ) → Ends (1 + most * (n + 1 - c .inputs)) (framesAt c n .times)
-  unfolding frames
-  times-end small =
-      grow-each (λ (g : Gate). g .fanins) gateFrames InTime (λ (g : Gate). g .delay ≤ most) (c .inputs) noFrames missing made noGate
-      (tabulate (c .inputs) (λ (i : ℕ). inputFrames)) (c .gates) (rw (from-length (c .inputs) 0 (λ (i : ℕ). inputFrames)) (omega arith)) small inputs-in-time
+    inputs-count : length inputs ≡ c .inputs
+    inputs-count = from-length (c .inputs) 0 (λ (i : ℕ). inputFrames (moments i))
+
+    inputs-in-time : (n : ℕ) → InTime n (getD inputs n noFrames)
+    inputs-in-time n =
+        elim (order (c .inputs) n) [
+          | inl k ↦ rw (List·getD-eq-default inputs noFrames {n = n} (rw inputs-count k)) (missing n)
+          | inr k ↦ rw (tabulate-at (c .inputs) (λ (i : ℕ). inputFrames (moments i)) noFrames n k) (ends-cons (latest n) 0 (moments n) zero-le (λ t e. omega (arith, ends n t e)))
+        ]
+
+    pub times-end : DelaysUpTo most c → (n : ℕ) → Ends (last + most * (n + 1 - c .inputs)) (framesAt c moments n .times)
+    unfolding frames
+    times-end small =
+        grow-each (λ (g : Gate). g .fanins) gateFrames InTime (λ (g : Gate). g .delay ≤ most) (c .inputs) noFrames missing made noGate
+        inputs (c .gates) (rw inputs-count (omega arith)) small inputs-in-time

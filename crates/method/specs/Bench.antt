@@ -8,7 +8,7 @@ use mathlib.Core.List.{List, [], _∷_, map}
 use Rattle.method.specs.declared.Kind.the-variants.{Not, And, Xor}
 use Rattle.method.specs.Kinds.{gateFn}
 use Rattle.method.specs.Circuit.{Circuit}
-use Rattle.method.specs.Stimulus.{Stimuli}
+use Rattle.method.specs.Stimulus.{Stimuli, momentsOf}
 use Rattle.method.specs.Times.{gateTimes}
 use Rattle.method.specs.Indices.{inertialIndices}
 use Rattle.method.specs.Frames.{Frames, faninRow, frames}
@@ -57,7 +57,7 @@ waveCircuit di =
     }
 
 abbrev up : Stimuli
-up i = record { before = lo; after = hi }
+up i = record { before = lo; changes = record { time = 1; bit = hi } ∷ [] }
 
 unfoldable pub byRule : Sheet
 byRule =
@@ -72,7 +72,7 @@ byRule =
       H = filteredAt 2 (0 ∷ 5 ∷ 6 ∷ 7 ∷ []) (lo ∷ hi ∷ hi ∷ lo ∷ []);
       I = traceAt (waveCircuit 2) up 2 .values;
       J = gateFn Xor (hi ∷ hi ∷ hi ∷ []);
-      waveTimes = map (λ (f : Frames). f .times) (frames (waveCircuit 1));
+      waveTimes = map (λ (f : Frames). f .times) (frames (waveCircuit 1) (momentsOf up));
       waveLevels = map (λ (n : Trace). n .values) (traces (waveCircuit 1) up);
       frame0 = inertialIndices 5 (0 ∷ 2 ∷ []);
     }

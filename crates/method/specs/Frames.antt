@@ -1,9 +1,10 @@
--- The frames of every net, as Plan lays them out. They come from the circuit alone.
+-- The frames of every net, as Plan lays them out. They come from the circuit and the inputs' change times alone.
 use Prim.Native.Nat.{ℕ}
 use mathlib.Core.List.{List, [], _∷_, map}
 use lib.ListN.{getD}
 use Rattle.method.specs.Circuit.{Gate, Circuit}
 use Rattle.method.specs.Nets.{nets}
+use Rattle.method.specs.Stimulus.{Moments}
 use Rattle.method.specs.Times.{inputTimes, gateTimes}
 use Rattle.method.specs.Indices.{faninIndex, inertialIndices}
 
@@ -14,8 +15,8 @@ pub record Frames : Type 0 where
   pub rows : List (List ℕ)
 
 -- inputs count as di = 0 and have no fan-ins
-abbrev pub inputFrames : Frames
-inputFrames = record { times = inputTimes; inertial = inertialIndices 0 inputTimes; rows = [] }
+abbrev pub inputFrames : List ℕ → Frames
+inputFrames changes = record { times = inputTimes changes; inertial = inertialIndices 0 (inputTimes changes); rows = [] }
 
 -- the fan-in indices at a frame of time t
 abbrev pub faninRow : ℕ → List (List ℕ) → ℕ → List ℕ
@@ -37,9 +38,9 @@ abbrev pub noFrames : Frames
 noFrames = record { times = 0 ∷ []; inertial = 0 ∷ []; rows = [] }
 
 -- all nets of a circuit
-unfoldable pub frames : Circuit → List Frames
-frames c = nets noFrames gateFrames (λ (i : ℕ). inputFrames) c
+unfoldable pub frames : Circuit → Moments → List Frames
+frames c m = nets noFrames gateFrames (λ (i : ℕ). inputFrames (m i)) c
 
 -- net n
-abbrev pub framesAt : Circuit → ℕ → Frames
-framesAt c n = getD (frames c) n noFrames
+abbrev pub framesAt : Circuit → Moments → ℕ → Frames
+framesAt c m n = getD (frames c m) n noFrames

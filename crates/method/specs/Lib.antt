@@ -3,9 +3,10 @@
 pub mod Kinds
 pub mod Circuit
 pub mod Nets
-pub mod Stimulus
--- The method: times, indices, frames, values, and what is read off them.
 pub mod Times
+pub mod Stimulus
+pub mod Changes
+-- The method: indices, frames, values, and what is read off them.
 pub mod Indices
 pub mod Frames
 pub mod Filter
@@ -30,3 +31,6 @@ pub mod Parity
 pub mod Netwise
 pub mod Agreement
 pub mod Lanes
+pub mod Bursts
+-- One change at 1: the rules as they were before inputs could change more than once.
+pub mod Once

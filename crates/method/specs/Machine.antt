@@ -1,21 +1,26 @@
 -- The time-by-time machine. It knows no frames and runs for one lane: each net is a wave, its level at every time.
 use Prim.Native.Nat.{ℕ, zero, suc, _-_}
 use mathlib.Core.Bool.{Bool, false, cond}
-use mathlib.Core.List.{List, map}
+use mathlib.Core.List.{List, [], _∷_, map}
+use lib.Dec.{leb}
 use lib.ListN.{getD}
 use Rattle.lists.specs.Tables.{tabulateFrom, allSame}
 use Rattle.method.specs.Kinds.{gateFn}
 use Rattle.method.specs.Circuit.{Gate, Circuit}
 use Rattle.method.specs.Nets.{nets}
-use Rattle.method.specs.Stimulus.{Stimulus, Stimuli}
+use Rattle.method.specs.Stimulus.{Change, Stimulus, Stimuli}
 
 abbrev pub Wave : Type 0
 Wave = ℕ → Bool
 
--- an input: the before-bit at 0, the after-bit from 1
+-- the bit of the latest of these changes not after t, else v
+abbrev pub latestBit : Bool → List Change → Wave
+latestBit v [] t = v
+latestBit v (c ∷ cs) t = latestBit (cond (leb (c .time) t) (c .bit) v) cs t
+
+-- an input: the bit of its latest change not after t, else the before-bit
 abbrev pub inputWave : Stimulus → Wave
-inputWave s zero = s .before
-inputWave s (suc t) = s .after
+inputWave s t = latestBit (s .before) (s .changes) t
 
 -- a gate's raw(t): the function of its fan-ins' out at t - d, or at 0 if t < d, where the difference of numbers is 0
 abbrev pub rawWave : Gate → List Wave → Wave

@@ -5,9 +5,9 @@ use mathlib.Core.List.{List, [], _∷_, map, flatMap}
 use lib.Dec.{ltb, eqb}
 use Rattle.lists.specs.Tables.{some}
 
--- an input: before-pattern at 0, after-pattern from 1
-abbrev pub inputTimes : List ℕ
-inputTimes = 0 ∷ 1 ∷ []
+-- an input: 0, and its change times
+abbrev pub inputTimes : List ℕ → List ℕ
+inputTimes changes = 0 ∷ changes
 
 -- x put in its place in a rising list, once
 abbrev pub insertOnce : ℕ → List ℕ → List ℕ

@@ -7,7 +7,7 @@ use Rattle.method.specs.declared.Kind.{Kind}
 use Rattle.method.specs.Kinds.{gateFn}
 use Rattle.method.specs.Circuit.{Gate, Circuit}
 use Rattle.method.specs.Nets.{nets}
-use Rattle.method.specs.Stimulus.{Stimulus, Stimuli}
+use Rattle.method.specs.Stimulus.{Change, Stimulus, Stimuli, changeTimes}
 use Rattle.method.specs.Frames.{Frames, inputFrames, gateFrames, noFrames}
 use Rattle.method.specs.Filter.{filtered}
 
@@ -16,9 +16,9 @@ pub record Trace : Type 0 where
   pub frames : Frames
   pub values : List Bool
 
--- the before-bit and the after-bit, not filtered
+-- the before-bit and the bit of each change, not filtered
 abbrev pub inputTrace : Stimulus → Trace
-inputTrace s = record { frames = inputFrames; values = s .before ∷ s .after ∷ [] }
+inputTrace s = record { frames = inputFrames (changeTimes s); values = s .before ∷ map (λ (c : Change). c .bit) (s .changes) }
 
 -- the raw value of a frame: the gate's function of its fan-ins' values at the indexed frames
 unfoldable pub rawValue : Kind → List (List Bool) → List ℕ → Bool

@@ -4,6 +4,7 @@ use mathlib.Core.List.{List, flatten}
 use lib.ListN.{length}
 use Rattle.lists.specs.Tables.{tabulate}
 use Rattle.method.specs.Circuit.{Circuit}
+use Rattle.method.specs.Stimulus.{Moments}
 use Rattle.method.specs.WordLists.{WordLists}
 use Rattle.method.specs.Packed.{packedValues}
 
@@ -11,5 +12,5 @@ use Rattle.method.specs.Packed.{packedValues}
 abbrev pub netCount : Circuit → ℕ
 netCount c = c .inputs + length (c .gates)
 
-unfoldable pub allValues : Circuit → WordLists → List ℕ
-allValues c w = flatten (tabulate (netCount c) (packedValues c w))
+unfoldable pub allValues : Circuit → Moments → WordLists → List ℕ
+allValues c m w = flatten (tabulate (netCount c) (packedValues c m w))

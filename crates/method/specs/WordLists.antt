@@ -1,4 +1,5 @@
--- The words that a run is handed: for each input a before word and an after word, whose bits are the 64 lanes.
+-- The words that a run is handed: for each input a before word, and for each of its changes an after word, inputs in order. The
+-- bits of a word are the 64 lanes.
 use Prim.Native.Nat.{ℕ}
 use mathlib.Core.List.{List}
 use lib.ListN.{length}

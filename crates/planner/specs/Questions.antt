@@ -1,11 +1,13 @@
--- Plan's questions in their order: the reader's 1 to 9, then 10 and 13.
+-- Plan's questions in their order: the reader's 1 to 9, then 10, 20 and 13.
 use mathlib.Core.Bool.{Bool, _&&_}
 use mathlib.Core.List.{List, [], _∷_, _++_}
 use lib.ListN.{length}
 use lib.Dec.{eqb}
 use Rattle.lists.specs.Ladder.{Question, _orElse_}
+use Rattle.circuit.specs.File.{inputsOf}
 use Rattle.circuit.specs.Questions as reader
 use Rattle.circuit.specs.Task.{Task, framesIn}
+use Rattle.method.specs.Changes.{changesSuit}
 use Rattle.method.specs.Sums.{fits}
 use Rattle.planner.specs.Limits.{directoryLength, timesLength, faninsLength}
 use Rattle.method.specs.Areas.{Areas}
@@ -23,7 +25,7 @@ lastQuestion task = (fits (framesIn task) orElse 13) ∷ []
 
 -- Plan's own questions
 abbrev pub ownQuestions : Task → Areas → List Question
-ownQuestions task a = (areasSuit a orElse 10) ∷ lastQuestion task
+ownQuestions task a = (areasSuit a orElse 10) ∷ (changesSuit (inputsOf (task .file)) (task .schedule) orElse 20) ∷ lastQuestion task
 
 unfoldable pub questions : Task → Areas → List Question
 questions task a = reader.questions (task .file) ++ ownQuestions task a

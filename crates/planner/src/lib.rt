@@ -1,4 +1,4 @@
-// Plan: the frames of every net of a circuit, laid out in the caller's areas.
+// Plan: the frames of every net of a circuit, whose inputs change at given times, laid out in the caller's areas.
 ghost use mathlib.Core.Path.{_≡_};
 ghost use Rattle.lists.specs.Outcome.{outcome};
 ghost use Rattle.method.specs.Areas.{areas};
@@ -23,15 +23,18 @@ pub enum Planning {
     Refused(u8),
 }
 
-// Plans the circuit of the file: questions 1 to 10, and 13.
+// Plans the circuit of the file, whose inputs have these counts of changes and these change times, inputs in order: questions 1
+// to 10, then 20 and 13.
 pub fn plan(
     file: &[u8],
+    counts: &[u8],
+    changes: &[Tick],
     directory: &mut [u16],
     times: &mut [Tick],
     inertial: &mut [u16],
     fanins: &mut [u16],
 ) -> Planning
-    ensures { λ r. ⌜ outcome (onPaper r) (areas (now (directory .exit)) (now (times .exit)) (now (inertial .exit)) (now (fanins .exit))) ≡ planOf (taskOf (now (file .entry))) (areas (now (directory .entry)) (now (times .entry)) (now (inertial .entry)) (now (fanins .entry))) ⌝ }
+    ensures { λ r. ⌜ outcome (onPaper r) (areas (now (directory .exit)) (now (times .exit)) (now (inertial .exit)) (now (fanins .exit))) ≡ planOf (taskOf (now (file .entry)) (now (counts .entry)) (now (changes .entry))) (areas (now (directory .entry)) (now (times .entry)) (now (inertial .entry)) (now (fanins .entry))) ⌝ }
 {
     match circuit::read(file) {
         Reading::Refused(n) => Planning::Refused(n),
@@ -39,7 +42,20 @@ pub fn plan(
             if !areas_suit(directory, times, inertial, fanins) {
                 return Planning::Refused(10);
             }
-            match layout::fill(file, inputs, gates, directory, times, inertial, fanins) {
+            if !stimulus::changes_suit(inputs, counts, changes) {
+                return Planning::Refused(20);
+            }
+            match layout::fill(
+                file,
+                counts,
+                changes,
+                inputs,
+                gates,
+                directory,
+                times,
+                inertial,
+                fanins,
+            ) {
                 Progress::TooMany => Planning::Refused(13),
                 Progress::Planned(t) => Planning::Planned(t),
             }

@@ -1,7 +1,7 @@
-// Storing and reading in a lent area, a search in a row of numbers, and two tests.
+// Storing and reading in a lent area, a search in a row of numbers, tests, and the later of two times.
 ghost use mathlib.Core.Path.{_≡_};
 ghost use mathlib.Core.Bool.{cond};
-ghost use Prim.Native.Nat.{_+_};
+ghost use Prim.Native.Nat.{_+_, max};
 ghost use lib.Dec.{leb};
 ghost use lib.ListN.{drop, getD};
 ghost use lib.Seq.{sets};
@@ -95,4 +95,11 @@ pub fn not_above(t: Tick, limit: Tick) -> usize
     ensures { λ r. ⌜ r ≡ cond (leb t limit) 1 0 ⌝ }
 {
     if t <= limit { 1 } else { 0 }
+}
+
+// The later of two times.
+pub fn later_of(a: Tick, b: Tick) -> Tick
+    ensures { λ r. ⌜ r ≡ max a b ⌝ }
+{
+    if a < b { b } else { a }
 }

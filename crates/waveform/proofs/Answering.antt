@@ -3,24 +3,31 @@
 -- Assumes nothing.
 use Prim.Native.Nat.{ℕ, zero, suc, _+_, _*_, _≤_}
 use mathlib.Core.Path.{_≡_, refl, sym, ap, ap₂, _∙_}
-use mathlib.Core.Logic.{⊎-elim}
+use mathlib.Core.Logic.{inl, inr, ⊎-elim}
 use mathlib.Core.Bool.{Bool, true}
-use mathlib.Core.List.{List, [], _∷_, append-assoc}
+use mathlib.Core.List.{List, [], _∷_, flatten, append-assoc}
 use native.Mathlib.Omega.{arith}
-use lib.ListN.{length}
+use lib.ListN.{length, getD, replicate, length-replicate}
 use lib.Dec.{eqb}
 use borrow.Author.Tests.{eqb-true, eq-eqb, ne-eqb}
 use Rattle.lists.specs.Ladder.{Question, _orElse_, firstNo, accepted}
 use Rattle.lists.specs.Outcome.{outcome}
-use Rattle.lists.proofs.Choices.{zero-or, bool-ext, and-left, and-both}
-use Rattle.lists.proofs.Ladders.{first, first-none, firstNo-append, asked, ask-yes, unless-none, refused-some}
+use Rattle.lists.specs.Tables.{tabulate}
+use Rattle.lists.proofs.Choices.{either, zero-or, bool-ext, and-left, and-both}
+use Rattle.lists.proofs.Ladders.{first, first-none, firstNo-append, asked, ask-yes, ask-no, unless-none, refused-some}
+use Rattle.method.specs.Circuit.{Circuit}
+use Rattle.method.specs.Changes.{Schedule, changesSuit}
+use Rattle.method.specs.Frames.{Frames, noFrames}
+use Rattle.method.specs.Traces.{Trace, noTrace}
+use Rattle.method.specs.Values.{netCount}
+use Rattle.method.specs.Once.{framesOnce, ones, OldRules}
 use Rattle.method.specs.WordLists.{WordLists, Lengths, wordLists, lengthsOf}
-use Rattle.circuit.specs.File.{inputsOf}
+use Rattle.circuit.specs.File.{inputsOf, circuitOf}
 use Rattle.circuit.specs.Limits.{mostInputs, mostGates}
 use Rattle.circuit.specs.declared.Reading.{Reading}
 use Rattle.circuit.specs.declared.Reading.the-variants as R
 use Rattle.circuit.specs.Questions as reader
-use Rattle.circuit.specs.Task.{Task, taskOf, circuitIn, netsIn, framesIn}
+use Rattle.circuit.specs.Task.{Task, momentsIn, netsIn}
 use Rattle.circuit.proofs.Gated.{questions-numbered}
 use Rattle.circuit.proofs.Accepted.{Head, passed}
 use Rattle.circuit.proofs.Parts.{circuit-inputs, gates-length, reading-accepted, inputs-are, gates-are, few}
@@ -39,12 +46,12 @@ use Rattle.engine.specs.After.{LeftByRun}
 use Rattle.engine.proofs.Accepted.{held, none}
 use Rattle.engine.proofs.After.{after-runs}
 use Rattle.engine.proofs.Answering.{run-is}
-use Rattle.method.proofs.Parts.{all-words}
+use Rattle.method.proofs.Once.{old-rules, ones-once, ones-suit}
 use Rattle.waveform.specs.Input.{wordsFrom, wordsOf, questions}
 use Rattle.text.specs.Text.{refusal}
-use Rattle.waveform.specs.Lines.{lines}
+use Rattle.waveform.specs.Lines.{line, lines}
 use Rattle.waveform.specs.Wave.{answerText, bufferLength}
-use Rattle.waveform.specs.Steps.{listLength, areaLines, netsRead, runText}
+use Rattle.waveform.specs.Steps.{listLength, areaLines, netsRead, taskLines, runText}
 use Rattle.waveform.proofs.Taking.{words-length, list-exact, list-only}
 use Rattle.waveform.proofs.Lining.{lines-are}
 use Rattle.waveform.proofs.Lengths.{refusal-length, lines-length}
@@ -80,7 +87,7 @@ module _ (task : Task) (w : WordLists) (a : Areas) where
   abbrev number : ℕ
   number = firstNo (engine.questions task (lengthsOf w) a)
 
-  text-yes : number ≡ 0 → runText task w a ≡ lines task w
+  text-yes : number ≡ 0 → runText task w a ≡ taskLines task w
   unfolding runText
   text-yes e = rw (eq-eqb number 0 e) refl
 
@@ -113,8 +120,8 @@ module _ (task : Task) (w : WordLists) (a : Areas) where
 -- ---- the lists and the part
 
 module _ (file part : List ℕ) where
-  abbrev task : Task
-  task = taskOf file
+  abbrev c : Circuit
+  c = circuitOf file
 
   abbrev n : ℕ
   n = length part
@@ -122,25 +129,44 @@ module _ (file part : List ℕ) where
   abbrev each : ℕ
   each = listLength n
 
+  -- each input changes once, at 1
+  abbrev task : Task
+  task = record { file = file; schedule = ones each }
+
   abbrev eachOf : Lengths
   eachOf = record { before = each; after = each }
 
   -- where the circuit takes 1 to 32 words each, 11 asks the same of the lists and of the part
-  same-words : 1 ≤ inputsOf file → inputsOf file ≤ mostInputs → engine.wordsSuit (inputsOf file) eachOf ≡ eqb n (16 * inputsOf file)
+  same-words : 1 ≤ inputsOf file → inputsOf file ≤ mostInputs → engine.wordsSuit (inputsOf file) (ones each) eachOf ≡ eqb n (16 * inputsOf file)
   unfolding engine.wordsSuit
   same-words h l =
-      bool-ext _ _
+      rw (eq-eqb each (length (replicate {A = ℕ} each 1)) (sym (length-replicate each 1)))
+      (bool-ext _ _
       (λ e. eq-eqb n (16 * inputsOf file) (list-only n (inputsOf file) h (eqb-true each (inputsOf file) (and-left (eqb each (inputsOf file)) _ e))))
-      (λ e. let q = eq-eqb each (inputsOf file) (list-exact n (inputsOf file) l (eqb-true n (16 * inputsOf file) e)) in and-both _ _ q q)
+      (λ e. and-both _ _ (eq-eqb each (inputsOf file) (list-exact n (inputsOf file) l (eqb-true n (16 * inputsOf file) e))) refl))
 
   module _ (pass : firstNo (reader.questions file) ≡ 0) where
     file-head : Head file
     unfolding reader.readOf
     file-head = passed file (reader.inputsAndGatesOf file) (unless-none (firstNo (reader.questions file)) (reader.inputsAndGatesOf file) pass) .head
 
+    -- where the part has the words, there is a count and a time of 1 for each input, and the old rules hold
+    module _ (y : eqb n (16 * inputsOf file) ≡ true) where
+      each-input : each ≡ inputsOf file
+      each-input = list-exact n (inputsOf file) (file-head .inputs-most) (eqb-true n (16 * inputsOf file) y)
+
+      timed : changesSuit (inputsOf file) (ones each) ≡ true
+      timed = rw (← each-input) (ones-suit each)
+
+      old : OldRules c (momentsIn task)
+      old = old-rules c (momentsIn task) (rw (circuit-inputs file, ← each-input) (ones-once each))
+
   -- the ladder behind the reader's
+  abbrev last : List Question
+  last = (fits (framesOnce c) orElse 13) ∷ []
+
   abbrev rest : List Question
-  rest = (eqb n (16 * inputsOf file) orElse 11) ∷ lastQuestion task
+  rest = (eqb n (16 * inputsOf file) orElse 11) ∷ last
 
   joined : firstNo (questions file part) ≡ first (firstNo (reader.questions file)) (firstNo rest)
   unfolding questions
@@ -148,20 +174,32 @@ module _ (file part : List ℕ) where
 
   -- Run's ladder comes to the same
   module _ (a : Areas) (suit : engine.areasSuit a ≡ true) where
+    abbrev behind : List Question
+    behind = (changesSuit (inputsOf file) (ones each) orElse 20) ∷ lastQuestion task
+
     abbrev own : List Question
-    own = (engine.areasSuit a orElse 10) ∷ (engine.wordsSuit (inputsOf file) eachOf orElse 11) ∷ lastQuestion task
+    own = (engine.areasSuit a orElse 10) ∷ (engine.wordsSuit (inputsOf file) (ones each) eachOf orElse 11) ∷ behind
 
     run-joined : firstNo (engine.questions task eachOf a) ≡ first (firstNo (reader.questions file)) (firstNo own)
     unfolding engine.questions engine.firstQuestions
     run-joined =
-        ap firstNo (append-assoc (reader.questions file) (engine.ownQuestions (inputsOf file) eachOf a) (lastQuestion task))
+        ap firstNo (append-assoc (reader.questions file) (engine.ownQuestions (inputsOf file) (ones each) eachOf a) (lastQuestion task))
         ∙ firstNo-append (reader.questions file) own (questions-numbered file)
+
+    same-behind : firstNo (reader.questions file) ≡ 0 → firstNo ((eqb n (16 * inputsOf file) orElse 11) ∷ behind) ≡ firstNo rest
+    same-behind e =
+        elim (either (eqb n (16 * inputsOf file))) [
+          | inl y ↦ ask-yes (eqb n (16 * inputsOf file)) 11 _ y ∙ ask-yes (changesSuit (inputsOf file) (ones each)) 20 _ (timed e y)
+              ∙ ap (λ (fs : List Frames). firstNo ((fits fs orElse 13) ∷ [])) (old e y .same-frames) ∙ sym (ask-yes (eqb n (16 * inputsOf file)) 11 _ y)
+          | inr z ↦ ask-no (eqb n (16 * inputsOf file)) 11 _ z ∙ sym (ask-no (eqb n (16 * inputsOf file)) 11 _ z)
+        ]
 
     same-rest : (m : ℕ) → firstNo (reader.questions file) ≡ m → first m (firstNo own) ≡ first m (firstNo rest)
     same-rest zero e =
         let h = file-head e in
         ask-yes (engine.areasSuit a) 10 _ suit
-        ∙ ap (λ (b : Bool). firstNo ((b orElse 11) ∷ lastQuestion task)) (same-words (h .inputs-least) (h .inputs-most))
+        ∙ ap (λ (b : Bool). firstNo ((b orElse 11) ∷ behind)) (same-words (h .inputs-least) (h .inputs-most))
+        ∙ same-behind e
     same-rest (suc m) e = refl
 
     same-number : firstNo (engine.questions task eachOf a) ≡ firstNo (questions file part)
@@ -172,30 +210,36 @@ module _ (file part : List ℕ) where
     both : (firstNo (reader.questions file) ≡ 0) × (firstNo rest ≡ 0)
     both = first-none (firstNo (reader.questions file)) (firstNo rest) (sym joined ∙ e)
 
-    words-asked : (eqb n (16 * inputsOf file) ≡ true) × (firstNo (lastQuestion task) ≡ 0)
-    words-asked = asked (eqb n (16 * inputsOf file)) 11 (lastQuestion task) (λ z. omega arith) (both .1)
+    words-asked : (eqb n (16 * inputsOf file) ≡ true) × (firstNo last ≡ 0)
+    words-asked = asked (eqb n (16 * inputsOf file)) 11 last (λ z. omega arith) (both .1)
 
     each-is : each ≡ inputsOf file
-    each-is = list-exact n (inputsOf file) (file-head (both .0) .inputs-most) (eqb-true n (16 * inputsOf file) (words-asked .0))
+    each-is = each-input (both .0) (words-asked .0)
 
-    fit : fits (framesIn task) ≡ true
-    fit = asked (fits (framesIn task)) 13 [] (λ z. omega arith) (words-asked .1) .0
+    fit : fits (framesOnce c) ≡ true
+    fit = asked (fits (framesOnce c)) 13 [] (λ z. omega arith) (words-asked .1) .0
 
-    lines-fit : (w : WordLists) → length (lines task w) ≤ bufferLength
+    lines-fit : (w : WordLists) → length (lines c w) ≤ bufferLength
     lines-fit w =
         let h = file-head (both .0) in
         omega (
           arith,
-          lines-length task w,
-          all-words (circuitIn task) w,
-          fits-total (framesIn task) fit,
+          lines-length c w,
+          fits-total (framesOnce c) fit,
           h .inputs-most,
           h .gates-most,
           circuit-inputs file,
           gates-length file,
         )
 
-  answer-yes : firstNo (questions file part) ≡ 0 → answerText file part ≡ lines task (wordsOf file part)
+    -- the lines are those of the old rules
+    same-lines : (w : WordLists) → taskLines task w ≡ lines c w
+    unfolding taskLines lines
+    same-lines w =
+        let o = old (both .0) (words-asked .0) in
+        ap₂ (λ (fs : List Frames) (ns : List Trace). flatten (tabulate (netCount c) (λ (k : ℕ). line k (getD fs k noFrames .times) (getD ns k noTrace .values)))) (o .same-frames) (o .same-traces w 0)
+
+  answer-yes : firstNo (questions file part) ≡ 0 → answerText file part ≡ lines c (wordsOf file part)
   unfolding answerText
   answer-yes e = rw (eq-eqb (firstNo (questions file part)) 0 e) refl
 
@@ -213,14 +257,15 @@ module _ (file part : List ℕ) where
     yes : firstNo (questions file part) ≡ 0 → runText task w a ≡ answerText file part
     yes e =
         text-yes task w a (number-is ∙ e)
-        ∙ ap₂ (λ (x y : List ℕ). lines task (wordLists x y)) (b ∙ ap (wordsFrom part 0) (each-is e)) (f ∙ ap (λ (k : ℕ). wordsFrom part k k) (each-is e))
+        ∙ same-lines e w
+        ∙ ap₂ (λ (x y : List ℕ). lines c (wordLists x y)) (b ∙ ap (wordsFrom part 0) (each-is e)) (f ∙ ap (λ (k : ℕ). wordsFrom part k k) (each-is e))
         ∙ sym (answer-yes e)
 
     no : (firstNo (questions file part) ≡ 0 → ⊥) → runText task w a ≡ answerText file part
     no e = text-no task w a (λ z. e (sym number-is ∙ z)) ∙ ap refusal number-is ∙ sym (answer-no e)
 
-    pub answer-is : runText task w a ≡ answerText file part
-    answer-is = ⊎-elim yes no (zero-or (firstNo (questions file part)))
+    pub answer-is : {h : Schedule} → h ≡ ones each → runText (record { file = file; schedule = h }) w a ≡ answerText file part
+    answer-is q = rw q (⊎-elim yes no (zero-or (firstNo (questions file part))))
 
   pub answer-fits : length (answerText file part) ≤ bufferLength
   answer-fits =

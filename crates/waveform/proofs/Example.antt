@@ -6,8 +6,9 @@ use Rattle.lists.specs.Ladder.{firstNo}
 use Rattle.lists.specs.Tables.{tabulateFrom, allBelow}
 use Rattle.method.specs.Kinds.{gateFn, takes}
 use Rattle.method.specs.Times.{gateTimes}
-use Rattle.method.specs.Frames.{framesWith, gateFrames, frames}
-use Rattle.method.specs.Traces.{rawValue, gateTrace, traces}
+use Rattle.method.specs.Frames.{framesWith, gateFrames}
+use Rattle.method.specs.Traces.{rawValue, gateTrace}
+use Rattle.method.specs.Once.{framesOnce, tracesOnce}
 use Rattle.method.specs.Words.{lane}
 use Rattle.numbers.specs.Numbers.{numberAt, wordAt}
 use Rattle.circuit.specs.File.{faninsOf, kindOf, gateOf, circuitOf}
@@ -21,5 +22,5 @@ use Rattle.waveform.specs.Wave.{answerText, textOf}
 use Rattle.waveform.specs.Example.{exampleInput, exampleText, Shown}
 
 pub shown : Shown
-unfolding exampleInput exampleText textOf answerText whole filePart wordPart questions wordsFrom wordAt numberAt firstNo reader.questions reader.headQuestions reader.fills reader.gateQuestions reader.lengthSuits delaysSuit takes kindOf allBelow faninsOf gateOf circuitOf fits flatten tabulateFrom flatMap zipWith frames gateFn gateTimes framesWith gateFrames rawValue gateTrace traces lane lines line frameText decimal digitAt
+unfolding exampleInput exampleText textOf answerText whole filePart wordPart questions wordsFrom wordAt numberAt firstNo reader.questions reader.headQuestions reader.fills reader.gateQuestions reader.lengthSuits delaysSuit takes kindOf allBelow faninsOf gateOf circuitOf fits flatten tabulateFrom flatMap zipWith framesOnce gateFn gateTimes framesWith gateFrames rawValue gateTrace tracesOnce lane lines line frameText decimal digitAt
 shown = refl

@@ -2,18 +2,23 @@
 -- `answer-fits` in Answering puts in the limits of an accepted circuit.
 -- Assumes nothing.
 use Prim.Native.Nat.{ℕ, zero, suc, _+_, _*_, _/_, _%_, _≤_}
-use mathlib.Core.Path.{ap, _∙_}
+use mathlib.Core.Path.{_≡_, sym, ap, _∙_}
 use mathlib.Core.Bool.{Bool, true, false, cond}
-use mathlib.Core.List.{List, [], _∷_, _++_, flatten, zipWith}
+use mathlib.Core.List.{List, [], _∷_, _++_, flatten, flatMap, zipWith}
 use native.Mathlib.Omega.{arith}
-use lib.ListN.{length, length-append}
+use lib.ListN.{length, take, length-append}
+use lib.Seq.{take-length}
 use lib.Dec.{leb}
 use Rattle.lists.specs.Tables.{tabulate, tabulateFrom}
 use Rattle.lists.proofs.Flat.{flat-next}
-use Rattle.method.specs.Values.{allValues}
+use Rattle.method.specs.Circuit.{Circuit}
+use Rattle.method.specs.Layout.{allTimes}
+use Rattle.method.specs.Values.{netCount}
 use Rattle.method.specs.WordLists.{WordLists}
-use Rattle.method.proofs.Parts.{word-each}
-use Rattle.circuit.specs.Task.{Task, circuitIn, netsIn, timesIn, laneValues, packedIn, allPackedIn}
+use Rattle.method.specs.Once.{framesOnce, timesOnce, laneOnce}
+use Rattle.method.proofs.Laying.{times-next}
+use Rattle.method.proofs.Parts.{nets-count}
+use Rattle.method.proofs.Once.{old-rules, always, always-once}
 use Rattle.text.specs.Text.{glyph, digitAt, decimal, newline, equals, refusal, frameText}
 use Rattle.waveform.specs.Lines.{line, netLine, lines}
 
@@ -54,25 +59,29 @@ line-length net times levels =
     let row = flatten (zipWith frameText times levels) in
     omega (arith, length-append (decimal net) (row ++ newline ∷ []), length-append row (newline ∷ []), decimal-length net, frames-length times levels)
 
-module _ (task : Task) (w : WordLists) where
-  none : length (flatten (tabulate 0 (netLine task w))) ≤ 6 * 0 + 8 * length (flatten (tabulate 0 (packedIn task w)))
-  unfolding tabulateFrom flatten
+module _ (c : Circuit) (w : WordLists) where
+  none : length (flatten (tabulate 0 (netLine c w))) ≤ 6 * 0 + 8 * length (allTimes (take 0 (framesOnce c)))
+  unfolding tabulateFrom flatten flatMap
   none = omega arith
 
-  some-length : (n : ℕ) → length (flatten (tabulate n (netLine task w))) ≤ 6 * n + 8 * length (flatten (tabulate n (packedIn task w)))
-  some-length zero = none
-  some-length (suc n) =
-      let f = netLine task w in
-      let g = packedIn task w in
+  some-length : (n : ℕ) → n ≤ length (framesOnce c) → length (flatten (tabulate n (netLine c w))) ≤ 6 * n + 8 * length (allTimes (take n (framesOnce c)))
+  some-length zero h = none
+  some-length (suc n) h =
+      let f = netLine c w in
       omega (
         arith,
         ap length (flat-next f n) ∙ length-append (flatten (tabulate n f)) (f n),
-        ap length (flat-next g n) ∙ length-append (flatten (tabulate n g)) (g n),
-        line-length n (timesIn task n) (laneValues task w 0 n),
-        word-each (circuitIn task) w n,
-        some-length n,
+        ap length (times-next (framesOnce c) n h) ∙ length-append (allTimes (take n (framesOnce c))) (timesOnce c n),
+        line-length n (timesOnce c n) (laneOnce c w 0 n),
+        some-length n (omega arith),
       )
 
-  pub lines-length : length (lines task w) ≤ 6 * netsIn task + 8 * length (allPackedIn task w)
-  unfolding lines allValues
-  lines-length = some-length (netsIn task)
+  -- there are as many nets
+  all-nets : length (framesOnce c) ≡ netCount c
+  all-nets = ap length (sym (old-rules c always (always-once (c .inputs)) .same-frames)) ∙ nets-count c always
+
+  pub lines-length : length (lines c w) ≤ 6 * netCount c + 8 * length (allTimes (framesOnce c))
+  unfolding lines
+  lines-length =
+      let all : take (netCount c) (framesOnce c) ≡ framesOnce c = rw (← all-nets) (take-length (framesOnce c)) in
+      rw all at (some-length (netCount c) (omega (arith, all-nets)))

@@ -11,19 +11,18 @@ use lib.ListN.{length, getD}
 use Rattle.lists.specs.Tables.{tabulateFrom}
 use Rattle.lists.proofs.Tabled.{from-ext}
 use Rattle.method.specs.Words.{lane}
-use Rattle.method.proofs.Tracing.{value-each}
-use Rattle.method.proofs.Lanes.{in-lanes}
+use Rattle.method.proofs.Lanes.{in-lanes, lane-each}
 use Rattle.method.specs.Layout.{frameCount, partOf}
 use Rattle.method.specs.WordLists.{WordLists}
-use Rattle.circuit.specs.Task.{Task, circuitIn, netsIn, timesIn, stimuliIn, laneValues}
+use Rattle.circuit.specs.Task.{Task, circuitIn, momentsIn, netsIn, timesIn, laneValues}
 use Rattle.looks.specs.declared.Sight as code
 use Rattle.looks.specs.Sight.{sightAt, sightOnPaper}
 use Rattle.engine.specs.Areas.{Areas}
 use Rattle.engine.specs.After.{After}
 use Rattle.text.specs.Text.{newline, decimal, frameText}
-use Rattle.waveform.specs.Lines.{line, netLine, lines}
+use Rattle.waveform.specs.Lines.{line}
 use Rattle.text.specs.Wrote.{Wrote}
-use Rattle.waveform.specs.Steps.{seenText, partFrames, areaLine, areaLines}
+use Rattle.waveform.specs.Steps.{seenText, partFrames, areaLine, areaLines, taskLines}
 use Rattle.text.proofs.Putting.{wrote-nothing, wrote-both, wrote-next}
 
 -- ---- written
@@ -80,19 +79,19 @@ module _ (task : Task) (w : WordLists) {a : Areas} (h : After task w a) where
     levels = laneValues task w 0 n
 
     own : map (lane 0) (partOf d (a .values) n) ≡ levels
-    own = ap (map (lane 0)) (h .values-are n l) ∙ in-lanes .own-values (circuitIn task) w 0 (omega arith) n
+    own = ap (map (lane 0)) (h .values-are n l) ∙ in-lanes .own-values (circuitIn task) (momentsIn task) w 0 (omega arith) n
 
     frames-are : partFrames (partOf d (a .plan .times) n) (partOf d (a .values) n) (frameCount d n) ≡ flatten (zipWith frameText times levels)
     unfolding partFrames sightAt
     frames-are =
         rw (h .count-is n l, h .times-are n l, own)
-        (ap flatten (zip-from frameText times levels (value-each (circuitIn task) (stimuliIn task w 0) n) 0 (λ (k : ℕ). seenText (sightAt times levels k)) (λ k m. rw (zero-add k) refl)))
+        (ap flatten (zip-from frameText times levels (lane-each (circuitIn task) (momentsIn task) w 0 n) 0 (λ (k : ℕ). seenText (sightAt times levels k)) (λ k m. rw (zero-add k) refl)))
 
-    line-is : areaLine d (a .plan .times) (a .values) n ≡ netLine task w n
+    line-is : areaLine d (a .plan .times) (a .values) n ≡ line n times levels
     unfolding areaLine line
     line-is = rw frames-are refl
 
-  pub lines-are : areaLines (a .plan .directory) (a .plan .times) (a .values) (netsIn task) ≡ lines task w
-  unfolding areaLines lines
+  pub lines-are : areaLines (a .plan .directory) (a .plan .times) (a .values) (netsIn task) ≡ taskLines task w
+  unfolding areaLines taskLines
   lines-are =
-      ap flatten (from-ext (netsIn task) 0 (areaLine d (a .plan .times) (a .values)) (netLine task w) (λ k _ l. line-is k (omega (arith, l))))
+      ap flatten (from-ext (netsIn task) 0 (areaLine d (a .plan .times) (a .values)) (λ (n : ℕ). line n (timesIn task n) (laneValues task w 0 n)) (λ k _ l. line-is k (omega (arith, l))))

@@ -1,18 +1,20 @@
 -- The input taken apart: whether it is whole, its words, and how many words a word part has for each list.
 -- Assumes nothing.
-use Prim.Native.Nat.{ℕ, _+_, _-_, _*_, _/_, _%_, _≤_, _<_}
+use Prim.Native.Nat.{ℕ, zero, suc, _+_, _-_, _*_, _/_, _%_, _≤_, _<_}
 use mathlib.Core.Path.{_≡_, refl, sym, ap, ap₂, _∙_, subst}
 use mathlib.Core.Bool.{Bool, true, false, _&&_, cond}
 use mathlib.Core.Logic.{inl, inr, ⊎-elim}
-use mathlib.Core.List.{List}
+use mathlib.Core.List.{List, _∷_}
 use native.Mathlib.Omega.{arith}
 use native.Mathlib.Nat.{zero-add}
-use lib.ListN.{length, getD, set}
+use lib.ListN.{length, getD, set, take, drop, replicate}
 use lib.Dec.{leb, eqb}
 use borrow.Author.Tests.{leb-true, le-leb, lt-leb, eq-eqb, ne-eqb}
 use Rattle.lists.proofs.Choices.{order, zero-or, and-right}
 use Rattle.lists.proofs.Storing.{Left, more, all, sets-all}
 use Rattle.lists.proofs.Tabled.{from-length, tabulate-at}
+use Rattle.method.specs.Changes.{schedule}
+use Rattle.method.specs.Once.{ones}
 use Rattle.numbers.specs.Numbers.{numberAt, wordAt}
 use Rattle.waveform.specs.Input.{whole, wordsFrom}
 use Rattle.waveform.specs.Steps.{listLength}
@@ -103,3 +105,17 @@ module _ (part words : List ℕ) (e : length words ≡ listLength (length part))
 
   pub list-kept : (first : ℕ) {taken : List ℕ} → taken ≡ wordsFrom part first (length words) → length taken ≡ listLength (length part)
   list-kept first t = ap length t ∙ words-length part first (length words) ∙ e
+
+-- ---- as many ones are lent as a list has words
+
+take-ones : (n m : ℕ) → n ≤ m → take n (replicate {A = ℕ} m 1) ≡ replicate n 1
+take-ones zero m h = refl
+take-ones (suc n) zero h = absurd (omega arith)
+take-ones (suc n) (suc m) h = ap (λ (l : List ℕ). 1 ∷ l) (take-ones n m (omega arith))
+
+pub ones-lent : {n : ℕ} (most : ℕ) → n ≡ listLength most
+    → schedule (take (n - 0) (drop 0 (replicate 32 1))) (take (n - 0) (drop 0 (replicate 32 1))) ≡ ones (listLength most)
+ones-lent {n} most e =
+    let few : n ≤ 32 = omega (arith, e, list-few most) in
+    let row : take (n - 0) (replicate {A = ℕ} 32 1) ≡ replicate n 1 = ap (λ (k : ℕ). take k (replicate {A = ℕ} 32 1)) (let q : n - 0 ≡ n = omega arith in q) ∙ take-ones n 32 few in
+    ap₂ schedule row row ∙ ap ones e

@@ -1,17 +1,18 @@
--- The wave program's input: two bytes with the circuit's length, the circuit, I before words, I after words.
+-- The wave program's input: two bytes with the circuit's length, the circuit, I before words, I after words. Each input changes
+-- once, at 1, so all is said by the rules for pattern pairs.
 use Prim.Native.Nat.{ℕ, _+_, _*_}
 use mathlib.Core.Bool.{Bool, _&&_}
-use mathlib.Core.List.{List, _∷_, _++_}
+use mathlib.Core.List.{List, [], _∷_, _++_}
 use lib.ListN.{length, take, drop}
 use lib.Dec.{leb, eqb}
 use Rattle.lists.specs.Ladder.{Question, _orElse_}
 use Rattle.lists.specs.Tables.{tabulate}
 use Rattle.method.specs.WordLists.{WordLists, wordLists}
 use Rattle.numbers.specs.Numbers.{numberAt, wordAt}
-use Rattle.circuit.specs.File.{inputsOf}
+use Rattle.method.specs.Sums.{fits}
+use Rattle.method.specs.Once.{framesOnce}
+use Rattle.circuit.specs.File.{inputsOf, circuitOf}
 use Rattle.circuit.specs.Questions as reader
-use Rattle.circuit.specs.Task.{taskOf}
-use Rattle.planner.specs.Questions.{lastQuestion}
 
 -- an input has at most this many bytes
 abbrev pub mostBytes : ℕ
@@ -48,4 +49,6 @@ wordsOf file part = wordLists (wordsFrom part 0 (inputsOf file)) (wordsFrom part
 -- 11: Is the word part 16 × I bytes?
 -- 13: Has every net at most 64 frames, and all nets together at most 2,048?
 unfoldable pub questions : List ℕ → List ℕ → List Question
-questions file part = reader.questions file ++ (eqb (length part) (16 * inputsOf file) orElse 11) ∷ lastQuestion (taskOf file)
+questions file part =
+    reader.questions file
+    ++ (eqb (length part) (16 * inputsOf file) orElse 11) ∷ (fits (framesOnce (circuitOf file)) orElse 13) ∷ []

@@ -8,13 +8,13 @@ use Rattle.lists.specs.Tables.{tabulate}
 use Rattle.method.specs.Words.{lane}
 use Rattle.method.specs.WordLists.{WordLists, lengthsOf}
 use Rattle.circuit.specs.Questions.{InputsAndGates}
-use Rattle.circuit.specs.Task.{Task}
+use Rattle.circuit.specs.Task.{Task, netsIn, timesIn, laneValues}
 use Rattle.method.specs.Layout.{frameCount, partOf}
 use Rattle.looks.specs.Sight.{Sight, sightAt}
 use Rattle.engine.specs.Areas.{Areas}
 use Rattle.engine.specs.Questions as engine
 use Rattle.text.specs.Text.{newline, decimal, refusal, frameText}
-use Rattle.waveform.specs.Lines.{lines}
+use Rattle.waveform.specs.Lines.{line}
 
 -- how many words a word part of n bytes has for each list; where it does not divide, or has more than 32 for each, none
 abbrev pub listLength : ℕ → ℕ
@@ -40,6 +40,10 @@ areaLines directory times values n = flatten (tabulate n (areaLine directory tim
 
 -- ---- a run, printed
 
+-- a line for each net of a task, run for these words
+unfoldable pub taskLines : Task → WordLists → List ℕ
+taskLines task w = flatten (tabulate (netsIn task) (λ (n : ℕ). line n (timesIn task n) (laneValues task w 0 n)))
+
 -- how many nets a circuit has, by what the reader answers: I + G
 abbrev pub netsRead : Answer InputsAndGates → ℕ
 netsRead (accepted s) = s .inputs + s .gates
@@ -49,4 +53,4 @@ netsRead (refused n) = 0
 unfoldable pub runText : Task → WordLists → Areas → List ℕ
 runText task w a =
     let n : ℕ = firstNo (engine.questions task (lengthsOf w) a) in
-    cond (eqb n 0) (lines task w) (refusal n)
+    cond (eqb n 0) (taskLines task w) (refusal n)

@@ -6,7 +6,7 @@ use lib.ListN.{length}
 use lib.Dec.{eqb}
 use Rattle.lists.specs.Ladder.{firstNo}
 use Rattle.lists.specs.Areas.{padded}
-use Rattle.circuit.specs.Task.{taskOf}
+use Rattle.circuit.specs.File.{circuitOf}
 use Rattle.waveform.specs.declared.Printing.{Printing}
 use Rattle.waveform.specs.declared.Printing.the-variants as P
 use Rattle.waveform.specs.Input.{whole, filePart, wordPart, wordsOf, questions}
@@ -17,7 +17,7 @@ use Rattle.waveform.specs.Lines.{lines}
 unfoldable pub answerText : List ℕ → List ℕ → List ℕ
 answerText file part =
     let n : ℕ = firstNo (questions file part) in
-    cond (eqb n 0) (lines (taskOf file) (wordsOf file part)) (refusal n)
+    cond (eqb n 0) (lines (circuitOf file) (wordsOf file part)) (refusal n)
 
 -- an input, whole or not
 unfoldable pub textOf : List ℕ → List ℕ

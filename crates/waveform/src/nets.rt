@@ -1,6 +1,8 @@
 // The lines of the nets, and the answer to a circuit with its words.
 ghost use mathlib.Core.Path.{_≡_};
 ghost use lib.ListN.{length};
+ghost use Rattle.method.specs.Changes.{schedule};
+ghost use Rattle.method.specs.Once.{ones};
 ghost use Rattle.method.specs.WordLists.{wordLists};
 ghost use Rattle.circuit.specs.Questions.{readOf};
 ghost use Rattle.circuit.specs.Task.{taskOf};
@@ -75,6 +77,8 @@ fn put_nets(
 // Runs the circuit of the file in these areas, and writes the lines of its nets, or the refusal.
 fn put_run(
     file: &[u8],
+    counts: &[u8],
+    changes: &[Tick],
     directory: &mut [u16],
     times: &mut [Tick],
     inertial: &mut [u16],
@@ -84,10 +88,12 @@ fn put_run(
     after: &[u64],
     output: &mut [u8],
 ) -> usize
-    ensures { λ r. ⌜ Wrote (now (output .entry)) 0 (runText (taskOf (now (file .entry))) (wordLists (now (before .entry)) (now (after .entry))) (areas (now (directory .entry)) (now (times .entry)) (now (inertial .entry)) (now (fanins .entry)) (now (values .entry)))) (now (output .exit)) r ⌝ }
+    ensures { λ r. ⌜ Wrote (now (output .entry)) 0 (runText (taskOf (now (file .entry)) (now (counts .entry)) (now (changes .entry))) (wordLists (now (before .entry)) (now (after .entry))) (areas (now (directory .entry)) (now (times .entry)) (now (inertial .entry)) (now (fanins .entry)) (now (values .entry)))) (now (output .exit)) r ⌝ }
 {
     match engine::run(
         file,
+        counts,
+        changes,
         directory,
         times,
         inertial,
@@ -112,15 +118,18 @@ fn net_count(file: &[u8]) -> u16
 }
 
 // Takes both lists from the word part, which has as many words for each as they have places, and writes what Run answers
-// to them.
+// to them, where there are as many counts of 1 and times of 1: each input changes once, at 1.
 fn put_with_words(
     file: &[u8],
+    counts: &[u8],
+    changes: &[Tick],
     part: &[u8],
     before: &mut [u64],
     after: &mut [u64],
     output: &mut [u8],
 ) -> usize
     requires { ⌜ (length (now before) ≡ listLength (length (now part))) × (length (now after) ≡ listLength (length (now part))) ⌝ }
+    requires { ⌜ schedule (now counts) (now changes) ≡ ones (listLength (length (now part))) ⌝ }
     ensures { λ r. ⌜ Wrote (now (output .entry)) 0 (answerText (now (file .entry)) (now (part .entry))) (now (output .exit)) r ⌝ }
 {
     let mut directory = [0u16; 320];
@@ -132,6 +141,8 @@ fn put_with_words(
     take_words(part, before.len(), after);
     put_run(
         file,
+        counts,
+        changes,
         &mut directory,
         &mut times,
         &mut inertial,
@@ -147,8 +158,18 @@ fn put_with_words(
 pub(crate) fn put_answer(file: &[u8], part: &[u8], output: &mut [u8]) -> usize
     ensures { λ r. ⌜ Wrote (now (output .entry)) 0 (answerText (now (file .entry)) (now (part .entry))) (now (output .exit)) r ⌝ }
 {
+    let counts = [1u8; 32];
+    let changes: [Tick; 32] = [1; 32];
     let mut before = [0u64; 32];
     let mut after = [0u64; 32];
     let n = list_length(part);
-    put_with_words(file, part, &mut before[0..n], &mut after[0..n], output)
+    put_with_words(
+        file,
+        &counts[0..n],
+        &changes[0..n],
+        part,
+        &mut before[0..n],
+        &mut after[0..n],
+        output,
+    )
 }

@@ -52,14 +52,14 @@ mul-directory-2 c = search needs
 slice-write-directory-2 : tie.Need-slice-write-directory-2
 slice-write-directory-2 c = search needs
 
-sub-t19 : tie.Need-sub-t19
-sub-t19 c = let s = c .before .before .before .before .before .before .before .before .before .before .before .before .before .before .before .before .before .before .before .before .before .before in omega (arith, own-some (now (s .args .own)) (s .pre .1 .0 .0 .starts))
+sub-end : tie.Need-sub-end
+sub-end c = let s = c .before .before .before .before .before .before .before .before .before .before .before .before .before .before .before .before .before .before .before .before .before .before in omega (arith, own-some (now (s .args .own)) (s .pre .1 .0 .0 .starts))
 
-mul-t30 : tie.Need-mul-t30
-mul-t30 c = search needs
+mul-end : tie.Need-mul-end
+mul-end c = search needs
 
-shared-slice-read-t29 : tie.Need-shared-slice-read-t29
-shared-slice-read-t29 c = let s = c .before .before .before .before .before .before .before .before .before .before .before .before .before .before .before .before .before .before .before .before .before .before .before in omega (arith, own-some (now (s .args .own)) (s .pre .1 .0 .0 .starts))
+shared-slice-read-end : tie.Need-shared-slice-read-end
+shared-slice-read-end c = let s = c .before .before .before .before .before .before .before .before .before .before .before .before .before .before .before .before .before .before .before .before .before .before .before in omega (arith, own-some (now (s .args .own)) (s .pre .1 .0 .0 .starts))
 
 cast-t29 : tie.Need-cast-t29
 cast-t29 c = search needs
@@ -122,9 +122,9 @@ store-gate-spec =
     add-directory
     mul-directory-2
     slice-write-directory-2
-    sub-t19
-    mul-t30
-    shared-slice-read-t29
+    sub-end
+    mul-end
+    shared-slice-read-end
     cast-t29
     add-t33
     cast-t34

@@ -3,7 +3,7 @@
 use native.Mathlib.Omega.{arith}
 use denote.Ref.{now}
 use Rattle.circuit.specs.Task.{taskOf}
-use Rattle.layout.proofs.Starting.{inputs-room, inputs-none, going-none}
+use Rattle.layout.proofs.Starting.{inputs-open, inputs-none, going-none}
 use Rattle.layout.proofs.Stepping.{given-alike}
 use Rattle.layout.proofs.Filling.{filled-now, filled-none}
 use borrow.Author.Needs.{needs}
@@ -15,19 +15,17 @@ clear-all-requires c κs = search needs
 
 add-inputs-requires : tie.Need-add-inputs-requires
 add-inputs-requires c κs =
-    let s = c .before .before .before .before .before .before .before .before .before .before .before .before .before .before .before .before .before .before .before .before in
-    let r = inputs-room (taskOf (now (s .args .file))) (s .pre .0) in
-    let inputs = s .pre .1 in
+    let s = c .before .before .before .before .before .before .before .before .before .before .before .before .before .before .before .before .before .before .before .before .before .before in
     let cleared = c .before .before .before .before .before .before .before .before .before .before .clear-all .kept in
-    (omega arith, omega arith, omega arith, omega arith, inputs-none (taskOf (now (s .args .file))) (s .pre .0) (c .before .before .before .before .before .before .before .before .before .before .clear-all .ensures))
+    (inputs-open (taskOf (now (s .args .file)) (now (s .args .counts)) (now (s .args .changes))) (s .pre .0) (omega arith) (omega arith), inputs-none (taskOf (now (s .args .file)) (now (s .args .counts)) (now (s .args .changes))) (s .pre .0) (c .before .before .before .before .before .before .before .before .before .before .clear-all .ensures))
 
 add-gates-requires : tie.Need-add-gates-requires
 add-gates-requires c κs =
-    let s = c .before .before .before .before .before .before .before .before .before .before .before .before .before .before .before .before .before .before .before .before .before .before .before .before .before .before .before .before .before in
+    let s = c .before .before .before .before .before .before .before .before .before .before .before .before .before .before .before .before .before .before .before .before .before .before .before .before .before .before .before .before .before .before .before in
     let cleared = c .before .before .before .before .before .before .before .before .before .before .before .before .before .before .before .before .before .before .before .clear-all .kept in
     let written = c .before .before .before .before .before .before .before .before .add-inputs .kept in (
       (given-alike (s .pre .0) (record { directory = omega arith; times = omega arith; inertial = omega arith; fanins = omega arith }), s .pre .1, s .pre .2),
-      going-none (taskOf (now (s .args .file))) (s .pre .0) (c .before .before .before .before .before .before .before .before .before .before .before .before .before .before .before .before .before .before .before .clear-all .ensures) (s .pre .1) (c .before .before .before .before .before .before .before .before .add-inputs .ensures .0) (c .before .before .before .before .before .before .before .before .add-inputs .ensures .1),
+      going-none (taskOf (now (s .args .file)) (now (s .args .counts)) (now (s .args .changes))) (s .pre .0) (c .before .before .before .before .before .before .before .before .before .before .before .before .before .before .before .before .before .before .before .clear-all .ensures) (c .before .before .before .before .before .before .before .before .add-inputs .ensures),
     )
 
 enum-known-totals : tie.Need-enum-known-totals
@@ -57,19 +55,19 @@ returns c =
     let gates = g .add-gates .kept in
     let inputs = g .before .before .before .before .before .before .before .before .before .add-inputs .kept in
     let cleared = g .before .before .before .before .before .before .before .before .before .before .before .before .before .before .before .before .before .before .before .before .clear-all .kept in
-    filled-none (taskOf (now (c .before .before .before .before .before .before .before .before .before .before .before .before .before .before .before .before .before .before .before .before .before .before .before .before .before .before .before .before .before .before .before .before .before .before .before .before .before .before .before .before .before .before .before .before .before .before .before .before .before .before .before .before .before .args .file))) (c .before .before .before .before .before .before .before .before .before .before .before .before .before .before .before .before .before .before .before .before .before .before .before .before .before .before .before .before .before .before .before .before .before .before .before .before .before .before .before .before .before .before .before .before .before .before .before .before .before .before .before .before .before .pre .2) (g .add-gates .ensures) (c .before .before .before .before .before .before .before .before .before .before .before .before .before .enum-told .given .1) (c .before .before .before .before .before .before .before .before .clear-all2 .ensures) (record { directory = omega arith; times = omega arith; inertial = omega arith; fanins = omega arith })
+    filled-none (taskOf (now (c .before .before .before .before .before .before .before .before .before .before .before .before .before .before .before .before .before .before .before .before .before .before .before .before .before .before .before .before .before .before .before .before .before .before .before .before .before .before .before .before .before .before .before .before .before .before .before .before .before .before .before .before .before .before .before .args .file)) (now (c .before .before .before .before .before .before .before .before .before .before .before .before .before .before .before .before .before .before .before .before .before .before .before .before .before .before .before .before .before .before .before .before .before .before .before .before .before .before .before .before .before .before .before .before .before .before .before .before .before .before .before .before .before .before .before .args .counts)) (now (c .before .before .before .before .before .before .before .before .before .before .before .before .before .before .before .before .before .before .before .before .before .before .before .before .before .before .before .before .before .before .before .before .before .before .before .before .before .before .before .before .before .before .before .before .before .before .before .before .before .before .before .before .before .before .before .args .changes))) (c .before .before .before .before .before .before .before .before .before .before .before .before .before .before .before .before .before .before .before .before .before .before .before .before .before .before .before .before .before .before .before .before .before .before .before .before .before .before .before .before .before .before .before .before .before .before .before .before .before .before .before .before .before .before .before .pre .2) (g .add-gates .ensures) (c .before .before .before .before .before .before .before .before .before .before .before .before .before .enum-told .given .1) (c .before .before .before .before .before .before .before .before .clear-all2 .ensures) (record { directory = omega arith; times = omega arith; inertial = omega arith; fanins = omega arith })
 
 same-length-5 : tie.Need-same-length-5
 same-length-5 c = let g = c .before .before .before .before .before .before .before .before .before .before .before in omega (arith, g .add-gates .kept, g .before .before .before .before .before .before .before .before .before .add-inputs .kept, g .before .before .before .before .before .before .before .before .before .before .before .before .before .before .before .before .before .before .before .before .clear-all .kept)
 
 same-length-6 : tie.Need-same-length-6
-same-length-6 c = search needs
+same-length-6 c = let g = c .before .before .before .before .before .before .before .before .before .before .before in omega (arith, g .add-gates .kept, g .before .before .before .before .before .before .before .before .before .add-inputs .kept, g .before .before .before .before .before .before .before .before .before .before .before .before .before .before .before .before .before .before .before .before .clear-all .kept)
 
 same-length-7 : tie.Need-same-length-7
-same-length-7 c = search needs
+same-length-7 c = let g = c .before .before .before .before .before .before .before .before .before .before .before in omega (arith, g .add-gates .kept, g .before .before .before .before .before .before .before .before .before .add-inputs .kept, g .before .before .before .before .before .before .before .before .before .before .before .before .before .before .before .before .before .before .before .before .clear-all .kept)
 
 same-length-8 : tie.Need-same-length-8
-same-length-8 c = search needs
+same-length-8 c = let g = c .before .before .before .before .before .before .before .before .before .before .before in omega (arith, g .add-gates .kept, g .before .before .before .before .before .before .before .before .before .add-inputs .kept, g .before .before .before .before .before .before .before .before .before .before .before .before .before .before .before .before .before .before .before .before .clear-all .kept)
 
 returns-2 : tie.Need-returns-2
 returns-2 c =
@@ -77,7 +75,7 @@ returns-2 c =
     let gates = g .add-gates .kept in
     let inputs = g .before .before .before .before .before .before .before .before .before .add-inputs .kept in
     let cleared = g .before .before .before .before .before .before .before .before .before .before .before .before .before .before .before .before .before .before .before .before .clear-all .kept in
-    filled-now (taskOf (now (c .before .before .before .before .before .before .before .before .before .before .before .before .before .before .before .before .before .before .before .before .before .before .before .before .before .before .before .before .before .before .before .before .before .before .before .before .before .before .before .before .before .args .file))) (c .before .before .before .before .before .before .before .before .before .before .before .before .before .before .before .before .before .before .before .before .before .before .before .before .before .before .before .before .before .before .before .before .before .before .before .before .before .before .before .before .before .pre .2) (g .add-gates .ensures) _ (c .before .totals .given .1) (record { directory = omega arith; times = omega arith; inertial = omega arith; fanins = omega arith })
+    filled-now (taskOf (now (c .before .before .before .before .before .before .before .before .before .before .before .before .before .before .before .before .before .before .before .before .before .before .before .before .before .before .before .before .before .before .before .before .before .before .before .before .before .before .before .before .before .before .before .args .file)) (now (c .before .before .before .before .before .before .before .before .before .before .before .before .before .before .before .before .before .before .before .before .before .before .before .before .before .before .before .before .before .before .before .before .before .before .before .before .before .before .before .before .before .before .before .args .counts)) (now (c .before .before .before .before .before .before .before .before .before .before .before .before .before .before .before .before .before .before .before .before .before .before .before .before .before .before .before .before .before .before .before .before .before .before .before .before .before .before .before .before .before .before .before .args .changes))) (c .before .before .before .before .before .before .before .before .before .before .before .before .before .before .before .before .before .before .before .before .before .before .before .before .before .before .before .before .before .before .before .before .before .before .before .before .before .before .before .before .before .before .before .pre .2) (g .add-gates .ensures) _ (c .before .totals .given .1) (record { directory = omega arith; times = omega arith; inertial = omega arith; fanins = omega arith })
 
 pub fill-spec : {M : Type 1} → statement M
 fill-spec =

@@ -92,7 +92,7 @@ use Rattle.marking.proofs.mark.Code as code
 
 -- ---- the parameters: what is only passed on, in front of the areas and behind them, and the areas between
 abbrev task-params : List Param
-task-params = shared u8 ∷ []
+task-params = shared u8 ∷ shared u8 ∷ shared tick ∷ []
 
 abbrev word-params : List Param
 word-params = shared u64 ∷ shared u64 ∷ []
@@ -118,7 +118,7 @@ twice-not false t = t
 
 module _ (κ : Lft) (tk : Denots (rows κ task-params)) (wd : Denots (rows κ word-params)) (a : Areas) (list : List Expectation) where
   abbrev task : Task
-  task = taskOf (now (tk .0))
+  task = taskOf (now (tk .0)) (now (tk .1 .0)) (now (tk .1 .1 .0))
 
   abbrev words : WordLists
   words = wordLists (now (wd .0)) (now (wd .1 .0))

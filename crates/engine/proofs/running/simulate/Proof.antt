@@ -1,4 +1,4 @@
--- `running::simulate` meets its contract: past 1 to 11 the areas are filled, and evaluated if the frames fit.
+-- `running::simulate` meets its contract: past the other questions the areas are filled, and evaluated if the frames fit.
 -- Assumes nothing.
 use Rattle.engine.proofs.Laid.{given, planned, driven}
 use Rattle.engine.proofs.Answering.{simulate-13, simulate-yes}
@@ -7,7 +7,7 @@ use Rattle.engine.proofs.running.simulate.Statement.{statement}
 use Rattle.engine.proofs.running.simulate.Tie as tie
 
 fill-requires : tie.Need-fill-requires
-fill-requires c κs = let s = c .before .before .before .before .before .before .before .before .before .before .before .before in (given _ (s .pre .0), s .pre .1, s .pre .2)
+fill-requires c κs = let s = c .before .before .before .before .before .before .before .before .before .before .before .before .before .before in (given _ (s .pre .0), s .pre .1, s .pre .2)
 
 enum-told : tie.Need-enum-told
 enum-told c = search needs
@@ -20,10 +20,10 @@ enum-known-t c = search needs
 
 evaluate-requires : tie.Need-evaluate-requires
 evaluate-requires c κs =
-    let s = c .before .before .before .before .before .before .before .before .before .before .before .before .before .before .before .before .before .before .before .before .before .before .before .before .before .before .before .before in
+    let s = c .before .before .before .before .before .before .before .before .before .before .before .before .before .before .before .before .before .before .before .before .before .before .before .before .before .before .before .before .before .before in
     let p = c .before .before .before .before .before .before .before .before .before .before .before .before .before .before .before .fill in
     let t = c .before .before .before .before .before .t .given .1 in
-    ((planned _ (s .pre .0) (p .ensures) t (p .kept .1 .1 .1 .0) (p .kept .1 .1 .1 .1 .0) (p .kept .1 .1 .1 .1 .1 .0) (p .kept .1 .1 .1 .1 .1 .1 .0), s .pre .1, s .pre .2), driven _ (s .pre .0) (p .ensures) t)
+    ((planned _ (s .pre .0) (p .ensures) t (p .kept .1 .1 .1 .1 .1 .0) (p .kept .1 .1 .1 .1 .1 .1 .0) (p .kept .1 .1 .1 .1 .1 .1 .1 .0) (p .kept .1 .1 .1 .1 .1 .1 .1 .1 .0), s .pre .1, s .pre .2), driven _ (s .pre .0) (p .ensures) t)
 
 same-length : tie.Need-same-length
 same-length c = search needs
@@ -41,7 +41,7 @@ same-length-5 : tie.Need-same-length-5
 same-length-5 c = search needs
 
 returns : tie.Need-returns
-returns c = simulate-13 _ _ (c .before .before .before .before .before .before .before .before .before .before .before .before .before .before .before .before .before .before .before .before .before .before .before .before .before .before .before .pre .0) (c .before .before .before .before .before .before .before .before .before .before .before .before .before .before .fill .ensures) (c .before .before .before .before .enum-told .given .1) (c .before .before .clear-words .ensures)
+returns c = simulate-13 _ _ (c .before .before .before .before .before .before .before .before .before .before .before .before .before .before .before .before .before .before .before .before .before .before .before .before .before .before .before .before .before .pre .0) (c .before .before .before .before .before .before .before .before .before .before .before .before .before .before .fill .ensures) (c .before .before .before .before .enum-told .given .1) (c .before .before .clear-words .ensures)
 
 same-length-6 : tie.Need-same-length-6
 same-length-6 c = search needs
@@ -59,7 +59,7 @@ same-length-10 : tie.Need-same-length-10
 same-length-10 c = search needs
 
 returns-2 : tie.Need-returns-2
-returns-2 c = simulate-yes _ _ (c .before .before .before .before .before .before .before .before .before .before .before .before .before .before .before .before .before .before .before .before .before .before .before .before .before .before .before .before .before .before .before .pre .0) (c .before .before .before .before .before .before .before .before .before .before .before .before .before .before .before .before .before .before .fill .ensures) (c .before .before .before .before .before .before .before .before .t .given .1) (c .before .before .evaluate .ensures)
+returns-2 c = simulate-yes _ _ (c .before .before .before .before .before .before .before .before .before .before .before .before .before .before .before .before .before .before .before .before .before .before .before .before .before .before .before .before .before .before .before .before .before .pre .0) (c .before .before .before .before .before .before .before .before .before .before .before .before .before .before .before .before .before .before .fill .ensures) (c .before .before .before .before .before .before .before .before .t .given .1) (c .before .before .evaluate .ensures)
 
 pub simulate-spec : {M : Type 1} → statement M
 simulate-spec =

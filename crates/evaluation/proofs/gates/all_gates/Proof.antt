@@ -17,26 +17,26 @@ use Rattle.evaluation.proofs.gates.all_gates.Statement.{statement}
 use Rattle.evaluation.proofs.gates.all_gates.Tie as tie
 
 abbrev Inv-loop : tie.InvT-loop
-Inv-loop file directory inertial fanins values₀ inputs gates at₀ j₀ values at j = (j ≤ gates) × (length values ≡ length values₀) × (at ≡ length (allFanins (take (inputs + j) (framesIn (taskOf file))))) × ((w : WordLists) → Holds (taskOf file) w inputs values₀ → Holds (taskOf file) w (inputs + j) values)
+Inv-loop file counts changes directory inertial fanins values₀ inputs gates at₀ j₀ values at j = (j ≤ gates) × (length values ≡ length values₀) × (at ≡ length (allFanins (take (inputs + j) (framesIn (taskOf file counts changes))))) × ((w : WordLists) → Holds (taskOf file counts changes) w inputs values₀ → Holds (taskOf file counts changes) w (inputs + j) values)
 
 abbrev μ-loop : tie.MeasureT-loop
-μ-loop file directory inertial fanins values₀ inputs gates at₀ j₀ values at j = gates - j
+μ-loop file counts changes directory inertial fanins values₀ inputs gates at₀ j₀ values at j = gates - j
 
 -- the next gate can be evaluated
-ready : (c : tie.After-gate-words-arg Inv-loop μ-loop) → Ready (c .before .before .before .before .before .before .before .before .before .args .file .now) (c .before .before .before .before .before .before .before .before .before .args .directory .now) (c .before .before .before .before .before .before .before .before .before .args .inertial .now) (c .before .before .before .before .before .before .before .before .before .args .fanins .now) (length (c .before .before .before .loop .values)) (c .before .before .before .before .before .before .before .before .before .args .inputs + c .before .before .before .loop .j) (c .before .gate-at .result) (c .before .before .before .loop .at)
+ready : (c : tie.After-gate-words-arg Inv-loop μ-loop) → Ready (c .before .before .before .before .before .before .before .before .before .before .before .args .file .now) (c .before .before .before .before .before .before .before .before .before .before .before .args .directory .now) (c .before .before .before .before .before .before .before .before .before .before .before .args .inertial .now) (c .before .before .before .before .before .before .before .before .before .before .before .args .fanins .now) (length (c .before .before .before .loop .values)) (c .before .before .before .before .before .before .before .before .before .before .before .args .inputs + c .before .before .before .loop .j) (c .before .gate-at .result) (c .before .before .before .loop .at)
 ready c =
-    let s = c .before .before .before .before .before .before .before .before .before in
+    let s = c .before .before .before .before .before .before .before .before .before .before .before in
     let l = c .before .before .before .loop in
     turn-ready (s .pre .0 .0) (s .pre .0 .1) {j = l .j} (omega (arith, c .before .before .loop-test .taken, s .pre .0 .2)) (l .inv .2) (c .before .gate-at .ensures) (length (l .values)) (omega (arith, s .pre .1 .words, l .inv .1))
 
 loop-holds : tie.Need-loop-holds Inv-loop μ-loop
-loop-holds c = (omega arith, refl, rows-start (c .before .before .before .before .before .pre .0 .0) (c .before .before .before .before .before .pre .0 .1), (λ w h. rw add-zero h))
+loop-holds c = (omega arith, refl, rows-start (c .before .before .before .before .before .before .before .pre .0 .0) (c .before .before .before .before .before .before .before .pre .0 .1), (λ w h. rw add-zero h))
 
 gate-at-requires : tie.Need-gate-at-requires Inv-loop μ-loop
 gate-at-requires c κs = search needs
 
-add-t13 : tie.Need-add-t13 Inv-loop μ-loop
-add-t13 c = omega (arith, few (c .before .before .before .before .before .before .before .before .args .file .now) (c .before .before .before .before .before .before .before .before .pre .0 .0 .read), c .before .before .before .before .before .before .before .before .pre .0 .1, c .before .before .before .before .before .before .before .before .pre .0 .2, c .before .loop-test .taken)
+add-t15 : tie.Need-add-t15 Inv-loop μ-loop
+add-t15 c = omega (arith, few (c .before .before .before .before .before .before .before .before .before .before .args .file .now) (c .before .before .before .before .before .before .before .before .before .before .pre .0 .0 .read), c .before .before .before .before .before .before .before .before .before .before .pre .0 .1, c .before .before .before .before .before .before .before .before .before .before .pre .0 .2, c .before .loop-test .taken)
 
 gate-words-requires : tie.Need-gate-words-requires Inv-loop μ-loop
 gate-words-requires c κs = ready c
@@ -55,7 +55,7 @@ loop-less c = search needs
 
 loop-again : tie.Need-loop-again Inv-loop μ-loop
 loop-again c =
-    let s = c .before .before .before .before .before .before .before .before .before .before .before .before .before in
+    let s = c .before .before .before .before .before .before .before .before .before .before .before .before .before .before .before in
     let l = c .before .before .before .before .before .before .before .loop in
     let more : l .j < gatesOf (s .args .file .now) = omega (arith, c .before .before .before .before .before .before .loop-test .taken, s .pre .0 .2) in (
       omega arith,
@@ -69,7 +69,7 @@ same-length c = search needs
 
 returns : tie.Need-returns Inv-loop μ-loop
 returns c =
-    let q : c .before .loop .j ≡ c .before .before .before .before .before .before .before .args .gates = omega (arith, c .loop-test .left) in
+    let q : c .before .loop .j ≡ c .before .before .before .before .before .before .before .before .before .args .gates = omega (arith, c .loop-test .left) in
     λ w h. rw q at (c .before .loop .inv .3 w h)
 
 pub all-gates-spec : {M : Type 1} → statement M
@@ -80,7 +80,7 @@ all-gates-spec =
     μ-loop
     loop-holds
     gate-at-requires
-    add-t13
+    add-t15
     gate-words-requires
     entries-of-requires
     add-at

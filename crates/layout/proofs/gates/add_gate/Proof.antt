@@ -13,10 +13,10 @@ use Rattle.layout.proofs.gates.add_gate.Tie as tie
 -- what is known of the gate once its record is read
 abbrev Known : tie.Start → GateRecord → Type 0
 Known s g =
-    Step (taskOf (now (s .args .file))) (s .args .net .0) (s .args .j) (areas (now (s .args .directory)) (now (s .args .times)) (now (s .args .inertial)) (now (s .args .fanins))) (s .args .totals) g
+    Step (taskOf (now (s .args .file)) (now (s .args .counts)) (now (s .args .changes))) (s .args .net .0) (s .args .j) (areas (now (s .args .directory)) (now (s .args .times)) (now (s .args .inertial)) (now (s .args .fanins))) (s .args .totals) g
 
-known : (c : tie.After-gate-at) → Known (c .before .before .before .before .before .before) (c .gate-at .result)
-known c = let s = c .before .before .before .before .before .before in step _ (s .pre .0 .0) _ (s .pre .0 .1) (s .pre .0 .2) (s .pre .1) (c .gate-at .ensures)
+known : (c : tie.After-gate-at) → Known (c .before .before .before .before .before .before .before .before) (c .gate-at .result)
+known c = let s = c .before .before .before .before .before .before .before .before in step _ (s .pre .0 .0) _ (s .pre .0 .1) (s .pre .0 .2) (s .pre .1) (c .gate-at .ensures)
 
 gate-at-requires : tie.Need-gate-at-requires
 gate-at-requires c κs = search needs

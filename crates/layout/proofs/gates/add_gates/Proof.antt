@@ -5,7 +5,7 @@ use mathlib.Core.Path.{_≡_, refl}
 use native.Mathlib.Omega.{arith}
 use denote.Ref.{now}
 use Rattle.circuit.specs.File.{circuitOf}
-use Rattle.circuit.specs.Task.{taskOf}
+use Rattle.circuit.specs.Task.{taskOf, momentsIn}
 use Rattle.circuit.proofs.Parts.{gates-length, few}
 use Rattle.method.specs.Areas.{areas}
 use Rattle.layout.specs.Steps.{Going}
@@ -16,19 +16,19 @@ use Rattle.layout.proofs.gates.add_gates.Statement.{statement}
 use Rattle.layout.proofs.gates.add_gates.Tie as tie
 
 abbrev Inv-loop : tie.InvT-loop
-Inv-loop file inputs gates directory₀ times₀ inertial₀ fanins₀ totals₀ j₀ directory times inertial fanins totals j = (j ≤ gates) × Alike (areas directory₀ times₀ inertial₀ fanins₀) (areas directory times inertial fanins) × Going (taskOf file) j (areas directory times inertial fanins) totals
+Inv-loop file counts changes inputs gates directory₀ times₀ inertial₀ fanins₀ totals₀ j₀ directory times inertial fanins totals j = (j ≤ gates) × Alike (areas directory₀ times₀ inertial₀ fanins₀) (areas directory times inertial fanins) × Going (taskOf file counts changes) j (areas directory times inertial fanins) totals
 
 abbrev μ-loop : tie.MeasureT-loop
-μ-loop file inputs gates directory₀ times₀ inertial₀ fanins₀ totals₀ j₀ directory times inertial fanins totals j = gates - j
+μ-loop file counts changes inputs gates directory₀ times₀ inertial₀ fanins₀ totals₀ j₀ directory times inertial fanins totals j = gates - j
 
 loop-holds : tie.Need-loop-holds Inv-loop μ-loop
-loop-holds c = (omega arith, record { directory = refl; times = refl; inertial = refl; fanins = refl }, c .before .before .before .before .before .pre .1)
+loop-holds c = (omega arith, record { directory = refl; times = refl; inertial = refl; fanins = refl }, c .before .before .before .before .before .before .before .pre .1)
 
-add-t14 : tie.Need-add-t14 Inv-loop μ-loop
-add-t14 c = let s = c .before .before .before .before .before .before .before in omega (arith, few (now (s .args .file)) (s .pre .0 .0 .read), s .pre .0 .1, s .pre .0 .2)
+add-t16 : tie.Need-add-t16 Inv-loop μ-loop
+add-t16 c = let s = c .before .before .before .before .before .before .before .before .before in omega (arith, few (now (s .args .file)) (s .pre .0 .0 .read), s .pre .0 .1, s .pre .0 .2)
 
 add-gate-requires : tie.Need-add-gate-requires Inv-loop μ-loop
-add-gate-requires c κs = let s = c .before .before .before .before .before .before .before .before .before .before .before in let v = c .before .before .before .before .before .loop .inv in ((given-alike (s .pre .0 .0) (v .1), omega (arith, c .before .before .before .before .loop-test .taken, s .pre .0 .2), omega (arith, s .pre .0 .1)), v .2)
+add-gate-requires c κs = let s = c .before .before .before .before .before .before .before .before .before .before .before .before .before in let v = c .before .before .before .before .before .loop .inv in ((given-alike (s .pre .0 .0) (v .1), omega (arith, c .before .before .before .before .loop-test .taken, s .pre .0 .2), omega (arith, s .pre .0 .1)), v .2)
 
 enum-known-t : tie.Need-enum-known-t Inv-loop μ-loop
 enum-known-t c = search needs
@@ -49,7 +49,7 @@ same-length-4 : tie.Need-same-length-4 Inv-loop μ-loop
 same-length-4 c = search needs
 
 returns : tie.Need-returns Inv-loop μ-loop
-returns c = let s = c .before .before .before .before .before .before .before .before .before .before .before .before .before .before .before .before .before .before .before .before .before .before in reached-many _ _ _ (gave-up (circuitOf (now (s .args .file))) (c .before .before .before .before .before .before .before .before .before .before .before .before .before .before .before .before .loop .j + 1) (s .args .gates) (c .before .before .before .before .before .before .before .before .before .before .add-gate .ensures .stopped (c .enum-told .given .1)) (omega arith) (omega (arith, gates-length (now (s .args .file)), s .pre .0 .2)))
+returns c = let s = c .before .before .before .before .before .before .before .before .before .before .before .before .before .before .before .before .before .before .before .before .before .before .before .before in reached-many _ _ _ (gave-up (circuitOf (now (s .args .file))) (momentsIn (taskOf (now (s .args .file)) (now (s .args .counts)) (now (s .args .changes)))) (c .before .before .before .before .before .before .before .before .before .before .before .before .before .before .before .before .loop .j + 1) (s .args .gates) (c .before .before .before .before .before .before .before .before .before .before .add-gate .ensures .stopped (c .enum-told .given .1)) (omega arith) (omega (arith, gates-length (now (s .args .file)), s .pre .0 .2)))
 
 add-j : tie.Need-add-j Inv-loop μ-loop
 add-j c = search needs
@@ -76,7 +76,7 @@ same-length-8 : tie.Need-same-length-8 Inv-loop μ-loop
 same-length-8 c = search needs
 
 returns-2 : tie.Need-returns-2 Inv-loop μ-loop
-returns-2 c = let q : c .before .loop .j ≡ c .before .before .before .before .before .before .before .args .gates = omega arith in reached-now _ _ _ _ (rw (← q) (c .before .loop .inv .2))
+returns-2 c = let q : c .before .loop .j ≡ c .before .before .before .before .before .before .before .before .before .args .gates = omega arith in reached-now _ _ _ _ (rw (← q) (c .before .loop .inv .2))
 
 pub add-gates-spec : {M : Type 1} → statement M
 add-gates-spec =
@@ -85,7 +85,7 @@ add-gates-spec =
     Inv-loop
     μ-loop
     loop-holds
-    add-t14
+    add-t16
     add-gate-requires
     enum-known-t
     enum-told

@@ -17,18 +17,18 @@ zeros : (n : ℕ) → length (replicate {A = ℕ} n 0) ≡ n
 zeros n = length-replicate {A = ℕ} n 0
 
 take-words-requires : tie.Need-take-words-requires
-take-words-requires c κs = let s = c .before .before .before .before .before .before in (omega arith, list-small (s .args .part .now) (s .args .before .now) (s .pre .0))
+take-words-requires c κs = let s = c .before .before .before .before .before .before .before .before in (omega arith, list-small (s .args .part .now) (s .args .before .now) (s .pre .0 .0))
 
 take-words-requires-2 : tie.Need-take-words-requires-2
 take-words-requires-2 c κs =
-    let s = c .before .before .before .before .before .before .before .before .before .before in
+    let s = c .before .before .before .before .before .before .before .before .before .before .before .before in
     let part = s .args .part .now in (
       omega (
         arith,
-        list-kept part (s .args .before .now) (s .pre .0) _ (c .before .before .before .take-words .ensures),
+        list-kept part (s .args .before .now) (s .pre .0 .0) _ (c .before .before .before .take-words .ensures),
         list-few (length part),
       ),
-      list-small part (s .args .after .now) (s .pre .1),
+      list-small part (s .args .after .now) (s .pre .0 .1),
     )
 
 slice-aggregate-put-run : tie.Need-slice-aggregate-put-run
@@ -60,13 +60,13 @@ same-length-3 c = search needs
 
 returns : tie.Need-returns
 returns c =
-    let s = c .before .before .before .before .before .before .before .before .before .before .before .before .before .before .before .before .before .before .before .before .before .before .before .before .before .before .before .before .before in
+    let s = c .before .before .before .before .before .before .before .before .before .before .before .before .before .before .before .before .before .before .before .before .before .before .before .before .before .before .before .before .before .before .before in
     let part = s .args .part .now in
     let first = c .before .before .before .before .before .before .before .before .before .before .before .before .before .before .before .before .before .before .before .before .before .before .take-words .ensures in
-    let kept = list-kept part (s .args .before .now) (s .pre .0) _ first in
-    let before = list-taken part (s .args .before .now) (s .pre .0) 0 first refl in
-    let after = list-taken part (s .args .after .now) (s .pre .1) _ (c .before .before .before .before .before .before .before .before .before .before .before .before .before .before .before .before .before .before .take-words2 .ensures) kept in
-    wrote-as _ _ (answer-is (s .args .file .now) part _ (areas-pass _ _ _ _ _ (zeros 320) (zeros 2048) (zeros 2048) (zeros 16384) (zeros 2048)) {w = wordLists _ _} before after) (c .before .before .before .before .before .before .before .put-run .ensures)
+    let kept = list-kept part (s .args .before .now) (s .pre .0 .0) _ first in
+    let before = list-taken part (s .args .before .now) (s .pre .0 .0) 0 first refl in
+    let after = list-taken part (s .args .after .now) (s .pre .0 .1) _ (c .before .before .before .before .before .before .before .before .before .before .before .before .before .before .before .before .before .before .take-words2 .ensures) kept in
+    wrote-as _ _ (answer-is (s .args .file .now) part _ (areas-pass _ _ _ _ _ (zeros 320) (zeros 2048) (zeros 2048) (zeros 16384) (zeros 2048)) {w = wordLists _ _} before after (s .pre .1)) (c .before .before .before .before .before .before .before .put-run .ensures)
 
 pub put-with-words-spec : {M : Type 1} → statement M
 put-with-words-spec =
