@@ -5,8 +5,11 @@ use crate::nets::show_net;
 use crate::print::show_planning;
 use crate::print::show_reading;
 use method::Tick;
+use testbench::Head;
 use testbench::after_count;
 use testbench::before_count;
+use testbench::changes_length;
+use testbench::counts_length;
 use testbench::directory_length;
 use testbench::end_line;
 use testbench::fanins_length;
@@ -34,38 +37,46 @@ pub(crate) fn circuit_case() -> bool {
     }
     let head = case.head;
     let file = case.file;
+    let counts = case.counts;
+    let changes = case.changes;
     let before = case.before;
     let after = case.after;
-    show_line(head, look, file, before, after)
+    show_line(head, look, file, counts, changes, before, after)
 }
 
 fn show_line(
-    head: [u8; 18],
+    head: Head,
     look: Look,
     file: [u8; 70000],
-    before: [u64; 80],
-    after: [u64; 80],
+    counts: [u8; 80],
+    changes: [Tick; 400],
+    before: [u64; 400],
+    after: [u64; 400],
 ) -> bool {
     let f = &file[0..file_length(head)];
+    let n = &counts[0..counts_length(head)];
+    let c = &changes[0..changes_length(head)];
     let b = &before[0..before_count(head)];
     let a = &after[0..after_count(head)];
     show_reading(circuit::read(f));
     show_semicolon();
-    plan_case(head, f);
+    plan_case(head, f, n, c);
     show_semicolon();
-    questions_case(head, f, b, a);
+    questions_case(head, f, n, c, b, a);
     show_semicolon();
-    run_case(head, look, f, b, a);
+    run_case(head, look, f, n, c, b, a);
     end_line()
 }
 
 // In these functions d, t, i, f and v are the areas: directory, times, inertial, fan-ins and values. Plan is not lent the
 // values.
-fn plan_case(head: [u8; 18], file: &[u8]) {
+fn plan_case(head: Head, file: &[u8], counts: &[u8], changes: &[Tick]) {
     let r = rubbish_of(head);
     plan_in(
         head,
         file,
+        counts,
+        changes,
         rubbish_directory(r),
         rubbish_times(r),
         rubbish_inertial(r),
@@ -74,8 +85,10 @@ fn plan_case(head: [u8; 18], file: &[u8]) {
 }
 
 fn plan_in(
-    head: [u8; 18],
+    head: Head,
     file: &[u8],
+    counts: &[u8],
+    changes: &[Tick],
     mut d: [u16; 400],
     mut t: [Tick; 2100],
     mut i: [u16; 2100],
@@ -83,6 +96,8 @@ fn plan_in(
 ) {
     show_planning(planner::plan(
         file,
+        counts,
+        changes,
         &mut d[0..directory_length(head)],
         &mut t[0..times_length(head)],
         &mut i[0..inertial_length(head)],
@@ -92,7 +107,14 @@ fn plan_in(
 }
 
 // The questions are lent the areas to be read only, so that there is nothing left to be seen in them.
-fn questions_case(head: [u8; 18], file: &[u8], before: &[u64], after: &[u64]) {
+fn questions_case(
+    head: Head,
+    file: &[u8],
+    counts: &[u8],
+    changes: &[Tick],
+    before: &[u64],
+    after: &[u64],
+) {
     let d = [0u16; 400];
     let t: [Tick; 2100] = [0; 2100];
     let i = [0u16; 2100];
@@ -100,6 +122,8 @@ fn questions_case(head: [u8; 18], file: &[u8], before: &[u64], after: &[u64]) {
     let v = [0u64; 2100];
     show_reading(engine::questions(
         file,
+        counts,
+        changes,
         &d[0..directory_length(head)],
         &t[0..times_length(head)],
         &i[0..inertial_length(head)],
@@ -110,12 +134,22 @@ fn questions_case(head: [u8; 18], file: &[u8], before: &[u64], after: &[u64]) {
     ));
 }
 
-fn run_case(head: [u8; 18], look: Look, file: &[u8], before: &[u64], after: &[u64]) {
+fn run_case(
+    head: Head,
+    look: Look,
+    file: &[u8],
+    counts: &[u8],
+    changes: &[Tick],
+    before: &[u64],
+    after: &[u64],
+) {
     let r = rubbish_of(head);
     run_in(
         head,
         look,
         file,
+        counts,
+        changes,
         before,
         after,
         rubbish_directory(r),
@@ -127,9 +161,11 @@ fn run_case(head: [u8; 18], look: Look, file: &[u8], before: &[u64], after: &[u6
 }
 
 fn run_in(
-    head: [u8; 18],
+    head: Head,
     look: Look,
     file: &[u8],
+    counts: &[u8],
+    changes: &[Tick],
     before: &[u64],
     after: &[u64],
     mut d: [u16; 400],
@@ -140,6 +176,8 @@ fn run_in(
 ) {
     let ran = show_planning(engine::run(
         file,
+        counts,
+        changes,
         &mut d[0..directory_length(head)],
         &mut t[0..times_length(head)],
         &mut i[0..inertial_length(head)],
@@ -154,7 +192,7 @@ fn run_in(
 // Prints the sums of what Run left, and where there was a run what is seen of the net.
 fn show_left(
     ran: bool,
-    head: [u8; 18],
+    head: Head,
     look: Look,
     d: &[u16; 400],
     t: &[Tick; 2100],

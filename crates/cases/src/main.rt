@@ -1,12 +1,12 @@
 // The test program. Standard input is a stream of cases of any length, standard output has a line a case. Numbers of more
 // than one byte are little-endian. The first byte of a case says what it is.
 //
-// `c`, the calls on a circuit. First a net (2) and a time (2), then a circuit with its words, as the top of
+// `c`, the calls on a circuit. First a net (2) and a time (2), then a circuit with its change times and words, as the top of
 // crates/testbench/src/lib.rt describes it. The line has, with a semicolon between them:
 // - what the reader answers, `accepted` with I and G;
 // - what Plan answers, `planned` with the frame total, the fan-in total and the last potential time, and behind it a sum of
 //   each of its four areas as it leaves them;
-// - what Run's questions 1 to 11 answer, as for the reader;
+// - what Run's questions 1 to 11 and 20 answer, as for the reader;
 // - what Run answers, as for Plan, and a sum of each of the five areas as it leaves them;
 // - where there was a run, what is seen of the net in its parts of the times and the values as Run left them: the level at
 //   the time in all lanes, as 16 hexadecimal digits in which bit L is lane L; when the frame began that Level names in lane

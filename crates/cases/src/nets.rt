@@ -7,6 +7,7 @@ use looks::Seen;
 use method::Net;
 use method::Tick;
 use method::Time;
+use testbench::Head;
 use testbench::Span;
 use testbench::directory_length;
 use testbench::read_all;
@@ -36,7 +37,7 @@ pub(crate) fn read_look() -> Look {
 
 // Prints what is seen of the net after a run. The arrays hold the areas in front.
 pub(crate) fn show_net(
-    head: [u8; 18],
+    head: Head,
     look: Look,
     directory: &[u16; 400],
     times: &[Tick; 2100],

@@ -1,4 +1,4 @@
-// A case: a circuit with its words and the expectations, and Mark on them.
+// A case: a circuit with its change times, its words and the expectations, and Mark on them.
 ghost use Prim.Native.Nat.{_≤_};
 use crate::lending::mark_first;
 use crate::records::list_of;
@@ -6,8 +6,11 @@ use crate::records::show_marking;
 use marking::Expectation;
 use method::Tick;
 use testbench::Case;
+use testbench::Head;
 use testbench::after_count;
 use testbench::before_count;
+use testbench::changes_length;
+use testbench::counts_length;
 use testbench::directory_length;
 use testbench::end_line;
 use testbench::fanins_length;
@@ -47,11 +50,15 @@ fn with_records(case: Case, records: &mut [u8]) -> bool {
     }
     let head = case.head;
     let file = case.file;
+    let counts = case.counts;
+    let changes = case.changes;
     let before = case.before;
     let after = case.after;
     show_line(
         head,
         file,
+        counts,
+        changes,
         before,
         after,
         list_of(records),
@@ -60,16 +67,20 @@ fn with_records(case: Case, records: &mut [u8]) -> bool {
 }
 
 fn show_line(
-    head: [u8; 18],
+    head: Head,
     file: [u8; 70000],
-    before: [u64; 80],
-    after: [u64; 80],
+    counts: [u8; 80],
+    changes: [Tick; 400],
+    before: [u64; 400],
+    after: [u64; 400],
     list: [Expectation; 12],
     count: usize,
 ) -> bool {
     mark_case(
         head,
         &file[0..file_length(head)],
+        &counts[0..counts_length(head)],
+        &changes[0..changes_length(head)],
         &before[0..before_count(head)],
         &after[0..after_count(head)],
         list,
@@ -79,8 +90,10 @@ fn show_line(
 }
 
 fn mark_case<'a>(
-    head: [u8; 18],
+    head: Head,
     file: &'a [u8],
+    counts: &'a [u8],
+    changes: &'a [Tick],
     before: &'a [u64],
     after: &'a [u64],
     list: [Expectation; 12],
@@ -92,6 +105,8 @@ fn mark_case<'a>(
     mark_in(
         head,
         file,
+        counts,
+        changes,
         before,
         after,
         list,
@@ -106,8 +121,10 @@ fn mark_case<'a>(
 
 // Here d, t, i, f and v are the areas: directory, times, inertial, fan-ins and values.
 fn mark_in<'a>(
-    head: [u8; 18],
+    head: Head,
     file: &'a [u8],
+    counts: &'a [u8],
+    changes: &'a [Tick],
     before: &'a [u64],
     after: &'a [u64],
     list: [Expectation; 12],
@@ -122,6 +139,8 @@ fn mark_in<'a>(
 {
     show_marking(mark_first(
         file,
+        counts,
+        changes,
         &mut d[0..directory_length(head)],
         &mut t[0..times_length(head)],
         &mut i[0..inertial_length(head)],

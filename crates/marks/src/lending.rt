@@ -7,6 +7,8 @@ use method::Tick;
 // Mark with the first records of a list. Proved by hand, as they are lent.
 pub(crate) fn mark_first<'a>(
     file: &'a [u8],
+    counts: &'a [u8],
+    changes: &'a [Tick],
     directory: &'a mut [u16],
     times: &'a mut [Tick],
     inertial: &'a mut [u16],
@@ -21,6 +23,8 @@ pub(crate) fn mark_first<'a>(
 {
     marking::mark(
         file,
+        counts,
+        changes,
         directory,
         times,
         inertial,

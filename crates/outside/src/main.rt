@@ -1,18 +1,20 @@
 // The comparison with a simulator by another hand: the changes of every net in all 64 lanes. The stored output is what
 // that simulator says of the stored vectors (tools/make_vectors.py).
 //
-// Standard input is a stream of any number of vectors: two bytes with a length N, little-endian, and N bytes that are
-// an input of the wave program: two bytes with the circuit's length, the circuit, I before words and I after words, 8
-// bytes each, all little-endian. Standard output has for each vector a line a net, and an empty line after the last:
+// Standard input is a stream of any number of vectors: two bytes with a length N, and N bytes. These are: the circuit's
+// length (2), how many changes the inputs have together (2), the circuit, how many changes each input has (1 each), the times
+// of the changes (2 each), a before word for each input and an after word for each change (8 each); inputs in order, and each
+// input's changes in the order of their times. Numbers of more than one byte are little-endian. Standard output has for each
+// vector a line a net, and an empty line after the last:
 //
 //     K t=word t=word ...; C
 //
 // K is the net's number. Frame 0 stands in the line, and every later frame whose word is another than that of the
 // frame before: the time in decimal and the word in 16 hexadecimal digits, bit L for lane L. C is the sum over the 64
-// lanes of what Count answers. A vector that is turned down has one line, `refused` and the number that the wave
-// program gives it (0 if it has under 2 or over 4,096 bytes or is shorter than its circuit), and the empty line. The
-// program stops at the end of the stream; where that lies within a vector, and where it cannot read or write on, which
-// standard error then says, it prints `cut` and stops.
+// lanes of what Count answers. A vector that is turned down has one line, `refused` and a number, and the empty line. The
+// number is 0 if the vector has under 4 bytes or is shorter than its circuit, 11 if what stands behind the circuit is longer or
+// shorter than said, and else Run's. The program stops at the end of the stream; where that lies within a vector, and where it
+// cannot read or write on, which standard error then says, it prints `cut` and stops.
 ghost use Prim.Native.Nat.{_<_, _≤_};
 
 mod nets;
@@ -23,9 +25,11 @@ use nets::show_nets;
 use numbers::number_at;
 use planner::Planning;
 use testbench::end_line;
+use testbench::limited;
 use testbench::read_all;
 use testbench::show_cut;
 use testbench::show_refused;
+use testbench::ticks_of;
 use testbench::words_of;
 
 // No input has as many vectors as there are turns: each takes two bytes or more.
@@ -83,31 +87,35 @@ fn cut() -> bool {
     false
 }
 
-// The wave program's own question 0, and where the circuit ends. This function and those below it print a vector's lines and
-// answer false where one cannot be written.
+// Where the circuit ends, as the wave program asks in its question 0. This function and those below it print a vector's lines
+// and answer false where one cannot be written.
 fn take_apart(vector: &[u8]) -> bool {
     let len = vector.len();
-    if len < 2 {
+    if len < 4 {
         return refuse(0);
     }
-    if 4096 < len {
-        return refuse(0);
-    }
-    let end = 2 + number_at(vector, 0) as usize;
+    let end = 4 + number_at(vector, 0) as usize;
     if len < end {
         return refuse(0);
     }
-    show_circuit(&vector[2..end], &vector[end..len])
+    show_circuit(
+        &vector[4..end],
+        &vector[end..len],
+        wide(number_at(vector, 2)),
+    )
 }
 
-// Asks the circuit's questions before the one about the words.
-fn show_circuit(file: &[u8], words: &[u8]) -> bool {
+// Asks the circuit's questions before the one about the words. A count and a word go with each input, a time and a word with
+// each change.
+fn show_circuit(file: &[u8], lists: &[u8], total: usize) -> bool
+    requires { ⌜ total < 65536 ⌝ }
+{
     match circuit::read(file) {
         Reading::Accepted { inputs, gates } => {
-            if words.len() != 16 * inputs as usize {
+            if lists.len() != 9 * inputs as usize + 10 * total {
                 return refuse(11);
             }
-            with_words(file, words, inputs as usize, nets_of(inputs, gates))
+            with_lists(file, lists, inputs as usize, total, nets_of(inputs, gates))
         }
         Reading::Refused(number) => refuse(number),
     }
@@ -124,24 +132,40 @@ fn nets_of(inputs: u16, gates: u16) -> u16 {
     inputs + gates
 }
 
-// Takes the before words and the after words from the bytes. An accepted circuit has at most 32 inputs; it is asked again,
-// so that the lists hold them whatever the reader promises.
-fn with_words(file: &[u8], words: &[u8], inputs: usize, nets: u16) -> bool {
+// Takes the counts, the times and the words from the bytes. An accepted circuit has at most 32 inputs; it is asked again, so
+// that the lists hold what they must whatever the reader promises. More changes than 8 for each of so many are 20.
+fn with_lists(file: &[u8], lists: &[u8], inputs: usize, total: usize, nets: u16) -> bool {
     if 32 < inputs {
         return refuse(2);
     }
+    if 256 < total {
+        return refuse(20);
+    }
+    let words = inputs + 2 * total;
     show_run(
         file,
-        words_of(words, 0),
-        words_of(words, 8 * inputs),
+        &lists[0..limited(inputs, lists.len())],
+        ticks_of(lists, inputs),
+        words_of(lists, words),
+        words_of(lists, words + 8 * inputs),
         inputs,
+        total,
         nets,
     )
 }
 
 // Runs the circuit, and prints its nets or the number of the refusal.
-fn show_run(file: &[u8], before: [u64; 80], after: [u64; 80], inputs: usize, nets: u16) -> bool
-    requires { ⌜ inputs ≤ 32 ⌝ }
+fn show_run(
+    file: &[u8],
+    counts: &[u8],
+    changes: [Tick; 400],
+    before: [u64; 400],
+    after: [u64; 400],
+    inputs: usize,
+    total: usize,
+    nets: u16,
+) -> bool
+    requires { ⌜ (inputs ≤ 32) × (total ≤ 256) ⌝ }
 {
     let mut directory = [0u16; 320];
     let mut times: [Tick; 2048] = [0; 2048];
@@ -150,13 +174,15 @@ fn show_run(file: &[u8], before: [u64; 80], after: [u64; 80], inputs: usize, net
     let mut values = [0u64; 2048];
     let answer = engine::run(
         file,
+        counts,
+        &changes[0..total],
         &mut directory,
         &mut times,
         &mut inertial,
         &mut fanins,
         &mut values,
         &before[0..inputs],
-        &after[0..inputs],
+        &after[0..total],
     );
     match answer {
         Planning::Planned(_) => show_nets(&directory, &times, &values, nets),

@@ -2,6 +2,7 @@
 ghost use Prim.Native.Nat.{_<_};
 ghost use mathlib.Core.Path.{_≡_};
 ghost use lib.ListN.{length};
+use crate::head::Head;
 use crate::head::directory_length;
 use crate::head::fanins_length;
 use crate::head::inertial_length;
@@ -98,7 +99,7 @@ pub fn tick_of(number: u16) -> Tick {
 
 // The arrays hold the areas in front; how long the areas are stands in the head.
 pub fn show_sums(
-    head: [u8; 18],
+    head: Head,
     directory: &[u16; 400],
     times: &[Tick; 2100],
     inertial: &[u16; 2100],
@@ -110,7 +111,7 @@ pub fn show_sums(
 }
 
 pub fn show_plan_sums(
-    head: [u8; 18],
+    head: Head,
     directory: &[u16; 400],
     times: &[Tick; 2100],
     inertial: &[u16; 2100],

@@ -1,5 +1,7 @@
 // What is read from the input.
 ghost use Prim.Native.Nat.{_<_, _≤_};
+use crate::areas::tick_of;
+use method::Tick;
 
 // Fills the bytes from the input; false where it ends before or cannot be read.
 pub fn read_all(bytes: &mut [u8]) -> bool {
@@ -8,16 +10,51 @@ pub fn read_all(bytes: &mut [u8]) -> bool {
     received.count == wanted
 }
 
+// The times of a list, and whether the input had them all.
+pub struct Ticks {
+    pub whole: bool,
+    pub list: [Tick; 400],
+}
+
+// Reads as many times, 400 at most; those behind them are 0.
+pub fn read_ticks(count: usize) -> Ticks {
+    let mut bytes = [0u8; 800];
+    ticks_in(&mut bytes[0..2 * limited(count, 400)])
+}
+
+// Fills the bytes from the input, and takes the times from them.
+fn ticks_in(bytes: &mut [u8]) -> Ticks {
+    let whole = read_all(bytes);
+    let list = ticks_of(bytes, 0);
+    Ticks {
+        whole: whole,
+        list: list,
+    }
+}
+
+// The two-byte numbers from a place on, as times; those behind the end are 0.
+pub fn ticks_of(bytes: &[u8], at: usize) -> [Tick; 400]
+    requires { ⌜ at ≤ 65535 ⌝ }
+{
+    let mut row: [Tick; 400] = [0; 400];
+    let mut k = 0;
+    while k < 400 {
+        row[k] = tick_of(numbers::number_at(bytes, at + 2 * k));
+        k += 1;
+    }
+    row
+}
+
 // The words of a list, and whether the input had them all.
 pub struct Words {
     pub whole: bool,
-    pub list: [u64; 80],
+    pub list: [u64; 400],
 }
 
-// Reads as many words, 80 at most; those behind them are 0.
+// Reads as many words, 400 at most; those behind them are 0.
 pub fn read_words(count: usize) -> Words {
-    let mut bytes = [0u8; 640];
-    words_in(&mut bytes[0..8 * limited(count, 80)])
+    let mut bytes = [0u8; 3200];
+    words_in(&mut bytes[0..8 * limited(count, 400)])
 }
 
 // Fills the bytes from the input, and takes the words from them.
@@ -31,12 +68,12 @@ fn words_in(bytes: &mut [u8]) -> Words {
 }
 
 // The words from a place on; those behind the end are 0.
-pub fn words_of(bytes: &[u8], at: usize) -> [u64; 80]
+pub fn words_of(bytes: &[u8], at: usize) -> [u64; 400]
     requires { ⌜ at ≤ 65535 ⌝ }
 {
-    let mut words = [0u64; 80];
+    let mut words = [0u64; 400];
     let mut k = 0;
-    while k < 80 {
+    while k < 400 {
         words[k] = numbers::word_at_byte(bytes, at + 8 * k);
         k += 1;
     }

@@ -68,7 +68,7 @@ use Rattle.marks.proofs.lending.mark_first.Code as code
 
 -- what is passed on to `mark` as it came
 abbrev handed : List Param
-handed = shared u8 ∷ area u16 ∷ area tick ∷ area u16 ∷ area u16 ∷ area u64 ∷ shared u64 ∷ shared u64 ∷ []
+handed = shared u8 ∷ shared u8 ∷ shared tick ∷ area u16 ∷ area tick ∷ area u16 ∷ area u16 ∷ area u64 ∷ shared u64 ∷ shared u64 ∷ []
 
 -- the local with the copy of the array: behind the result, the parameters and that
 abbrev copied : ℕ

@@ -1,4 +1,4 @@
--- `words_of` meets its contract. The place rises to 80.
+-- `words_of` meets its contract. The place rises to 400.
 -- Assumes nothing.
 use Prim.Native.Nat.{_-_}
 use borrow.Author.Needs.{needs}
@@ -9,7 +9,7 @@ abbrev Inv-loop : tie.InvT-loop
 Inv-loop bytes at words₀ k₀ words k = Unit
 
 abbrev μ-loop : tie.MeasureT-loop
-μ-loop bytes at words₀ k₀ words k = 80 - k
+μ-loop bytes at words₀ k₀ words k = 400 - k
 
 loop-holds : tie.Need-loop-holds Inv-loop μ-loop
 loop-holds c = search needs

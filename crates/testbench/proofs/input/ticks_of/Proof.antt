@@ -1,21 +1,24 @@
--- `ticks_of` meets its contract. The place rises to 80.
+-- `ticks_of` meets its contract. The place rises to 400.
 -- Assumes nothing.
 use Prim.Native.Nat.{_-_}
 use borrow.Author.Needs.{needs}
-use Rattle.cases.proofs.parts.ticks_of.Statement.{statement}
-use Rattle.cases.proofs.parts.ticks_of.Tie as tie
+use Rattle.testbench.proofs.input.ticks_of.Statement.{statement}
+use Rattle.testbench.proofs.input.ticks_of.Tie as tie
 
 abbrev Inv-loop : tie.InvT-loop
-Inv-loop bytes row₀ k₀ row k = Unit
+Inv-loop bytes at row₀ k₀ row k = Unit
 
 abbrev μ-loop : tie.MeasureT-loop
-μ-loop bytes row₀ k₀ row k = 80 - k
+μ-loop bytes at row₀ k₀ row k = 400 - k
 
 loop-holds : tie.Need-loop-holds Inv-loop μ-loop
 loop-holds c = search needs
 
 mul-number-at : tie.Need-mul-number-at Inv-loop μ-loop
 mul-number-at c = search needs
+
+add-number-at : tie.Need-add-number-at Inv-loop μ-loop
+add-number-at c = search needs
 
 number-at-requires : tie.Need-number-at-requires Inv-loop μ-loop
 number-at-requires c κs = search needs
@@ -49,6 +52,7 @@ ticks-of-spec =
     μ-loop
     loop-holds
     mul-number-at
+    add-number-at
     number-at-requires
     tick-of-requires
     mul-row
