@@ -1,17 +1,27 @@
 #!/usr/bin/env bash
-# Makes the wave input of each example again from its text, and runs the wave program on the stored one.
-# Both must give the stored bytes, NAME.wave and NAME.out. Another simulator of wave inputs may be named instead.
+# Makes the input of each example again from its text, and runs the program on the stored one: the wave program on NAME.wave, and
+# outside on NAME.outside, where inputs change at times of their own. All must give the stored bytes, the programs those of
+# NAME.out. Another simulator of wave inputs may be named instead; it is then run on these alone.
 cd "$(dirname "$0")/.."
-program=${1:-target/bin/wave}
-if [ $# = 0 ] && [ ! -x "$program" ]; then
-  echo "$program is not built yet: rt check wave builds it"
-  exit 1
-fi
+wave=${1:-target/bin/wave}
+outside=target/bin/outside
+for program in wave outside; do
+  if [ $# = 0 ] && [ ! -x "target/bin/$program" ]; then
+    echo "target/bin/$program is not built yet: rt check $program builds it"
+    exit 1
+  fi
+done
 examples=0 differ=0
 for text in examples/*.txt; do
   name=${text%.txt}
-  python3 tools/circuit_file.py "$text" | cmp - "$name.wave" || differ=$((differ + 1))
-  $program < "$name.wave" | cmp - "$name.out" || differ=$((differ + 1))
+  if [ -e "$name.wave" ]; then
+    stored=$name.wave option= program=$wave
+  else
+    stored=$name.outside option=--outside program=$outside
+  fi
+  python3 tools/circuit_file.py $option "$text" | cmp - "$stored" || differ=$((differ + 1))
+  [ $# = 0 ] || [ "$program" = "$wave" ] || continue
+  $program < "$stored" | cmp - "$name.out" || differ=$((differ + 1))
   examples=$((examples + 1))
 done
 echo "$examples examples, $differ files differ"

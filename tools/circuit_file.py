@@ -1,33 +1,40 @@
 #!/usr/bin/env python3
-r"""Writes an input of the wave program, or a circuit file alone, from a text that a person can read; draws the waves.
+r"""Writes an input of the wave program or of the program outside, or a circuit file alone, from a text that a person can read;
+draws what the programs print.
 
-    python3 tools/circuit_file.py examples/first.txt > first.wave               an input of the wave program
-    python3 tools/circuit_file.py --circuit examples/first.txt > first.circuit  the circuit file alone
+    python3 tools/circuit_file.py examples/first.txt > first.wave                   an input of the wave program
+    python3 tools/circuit_file.py --outside examples/counter.txt > counter.outside  an input of the program outside
+    python3 tools/circuit_file.py --circuit examples/first.txt > first.circuit      the circuit file alone
     target/bin/wave < first.wave | python3 tools/circuit_file.py --draw examples/first.txt
     target/bin/wave < first.wave | python3 tools/circuit_file.py --draw --at 3 examples/first.txt
+    target/bin/outside < counter.outside | python3 tools/circuit_file.py --draw examples/counter.txt
 
 The text has a line for each net, the inputs first. What follows a # is a comment.
 
-    input a 0->1                              level before and level after; `input a 1` stays at 1, `input a` at 0
+    input a 0->1                              level before, and from time 1 on; `input a 1` stays at 1, `input a` at 0
+    input b 0 1@3 0@7                         level before, then changes: a level and the time from which it holds
     not_a = NOT a, delay 2                    kind, nets that the gate reads, transport delay
     pulse = AND a not_a, delay 1, inertial 1  the inertial delay is 0 if it is not given
 
-Nets are numbered in the order of their lines, from 0. The levels go into lane 0; the other lanes are 0. In a drawing a
-column is a unit of time, _ is level 0, - is level 1, and / and \ stand at the times of the changes. With --at the frame of
-each net under that time follows: its level, when it began, and when the next begins.
+An input has at most 8 changes, at rising times from 1 to 255; the level may stay at one. The wave program knows just one
+change, at time 1; outside takes them all. Nets are numbered in the order of their lines, from 0. The levels go into lane 0;
+the other lanes are 0. In a drawing a column is a unit of time, _ is level 0, - is level 1, and / and \ stand at the times of
+the changes. With --at the frame of each net under that time follows: its level, when it began, and when the next begins
+(outside prints changes alone, so there it is when the level next changes).
 """
 import argparse
 import re
 import sys
 from collections import namedtuple
 
-Input = namedtuple("Input", "name before after")
+Input = namedtuple("Input", "name before changes")  # changes: pairs of a time and the level from then on
 Gate = namedtuple("Gate", "name kind fanins delay inertial")
 
 # ---- The bytes: all that this script knows of the file format and its limits
 
 KINDS = ["BUF", "NOT", "AND", "NAND", "OR", "NOR", "XOR", "XNOR"]  # a kind's number is its place
 MOST_INPUTS, MOST_GATES, MOST_FANINS, MOST_DELAY, MOST_TIME = 32, 128, 8, 63, 65535
+MOST_CHANGES, LAST_CHANGE = 8, 255
 
 
 def two(number):
@@ -48,10 +55,27 @@ def circuit_file(inputs, gates):
     return two(len(inputs)) + two(len(gates)) + pairs + b"".join(records)
 
 
+def words(levels):
+    return b"".join(level.to_bytes(8, "little") for level in levels)
+
+
 def wave_input(inputs, gates):
+    """Every input changes once, at 1: one that stays changes to the level that it has."""
+    for i in inputs:
+        if [time for time, _ in i.changes] not in ([], [1]):
+            raise Fault(f"the wave program takes one change of an input, at time 1, and {i.name} has others; "
+                        "--outside writes an input of the program outside, which takes them")
     circuit = circuit_file(inputs, gates)
-    levels = [i.before for i in inputs] + [i.after for i in inputs]
-    return two(len(circuit)) + circuit + b"".join(level.to_bytes(8, "little") for level in levels)
+    after = [i.changes[0][1] if i.changes else i.before for i in inputs]
+    return two(len(circuit)) + circuit + words([i.before for i in inputs] + after)
+
+
+def outside_input(inputs, gates):
+    circuit, changes = circuit_file(inputs, gates), [change for i in inputs for change in i.changes]
+    counts, times = bytes(len(i.changes) for i in inputs), b"".join(two(time) for time, _ in changes)
+    levels = [i.before for i in inputs] + [level for _, level in changes]
+    vector = two(len(circuit)) + two(len(changes)) + circuit + counts + times + words(levels)
+    return two(len(vector)) + vector
 
 
 # ---- The text
@@ -62,11 +86,17 @@ class Fault(Exception):
 
 
 def input_of(name, said):
-    levels = re.fullmatch(r"([01])(?:\s*->\s*([01]))?", said or "0")
+    levels = re.fullmatch(r"([01])(?:\s*->\s*([01])|((?:\s+[01]@\d{1,9})+))?", said or "0")
     if not levels:
-        raise Fault(f"the level of input {name} is 0, 1, 0->1 or 1->0, not '{said}'")
-    before, after = levels.groups()
-    return Input(name, int(before), int(after or before))
+        raise Fault(f"the level of input {name} is 0, 1, 0->1 or 1->0, or one with its changes, as 0 1@3 0@7, not '{said}'")
+    before, after, later = levels.groups()
+    changes = [(1, int(after))] if after else [(int(t), int(level)) for level, t in re.findall("([01])@([0-9]+)", later or "")]
+    times = [time for time, _ in changes]
+    if len(times) > MOST_CHANGES:
+        raise Fault(f"input {name} has {len(times)} changes; {MOST_CHANGES} are the most")
+    if any(not 1 <= time <= LAST_CHANGE for time in times) or times != sorted(set(times)):
+        raise Fault(f"the change times of input {name} are from 1 to {LAST_CHANGE}, and each is later than the one before")
+    return Input(name, int(before), changes)
 
 
 def gate_of(name, said, nets):
@@ -126,10 +156,10 @@ def read_text(lines):
 
 
 def frames_of(line):
-    """The levels of a net by their times, from a line that the wave program printed."""
-    if not re.fullmatch(r"\d+ 0=[01]( \d+=[01])*", line):
-        raise Fault(f"the wave program does not print '{line}'")
-    return {int(time): int(level) for time, level in re.findall(r"(\d+)=([01])", line)}
+    """The levels of a net by their times, from a line that the wave program or outside printed; of its words lane 0 counts."""
+    if not re.fullmatch(r"\d+ 0=([01]( \d+=[01])*|[0-9a-f]{16}( \d+=[0-9a-f]{16})*; \d+)", line):
+        raise Fault(f"neither the wave program nor outside prints '{line}'")
+    return {int(time): int(word, 16) & 1 for time, word in re.findall(r"(\d+)=([0-9a-f]+)", line)}
 
 
 def picture(frames, end):
@@ -150,11 +180,11 @@ def frame_under(frames, time):
 
 
 def draw(names, output, at=None):
-    """The lines of the wave program's output as a picture; with a time, the frames under it too."""
+    """The lines of a program's output as a picture; with a time, the frames under it too."""
     if output[:1] and output[0].startswith("refused"):
         return [output[0] + " (README.md has a table of the refusals)"]
     if len(output) != len(names):
-        raise Fault(f"the text has {len(names)} nets, and the wave program printed {len(output)} lines")
+        raise Fault(f"the text has {len(names)} nets, and the program printed {len(output)} lines")
     waves = [frames_of(line) for line in output]
     end, width = max(max(frames) for frames in waves) + 3, max(map(len, names))
     ruler = "".join(f"{time:<5}" for time in range(0, end, 5)).rstrip()
@@ -166,8 +196,10 @@ def draw(names, output, at=None):
 def main():
     parser = argparse.ArgumentParser(description="Writes an input of the wave program from a text, on standard output.")
     parser.add_argument("text", help="the text of the circuit, such as examples/first.txt")
-    parser.add_argument("--circuit", action="store_true", help="write the circuit file alone")
-    parser.add_argument("--draw", action="store_true", help="draw the wave program's output, read from standard input")
+    other = parser.add_mutually_exclusive_group()
+    other.add_argument("--outside", action="store_true", help="write an input of the program outside")
+    other.add_argument("--circuit", action="store_true", help="write the circuit file alone")
+    other.add_argument("--draw", action="store_true", help="draw what the wave program or outside printed, from standard input")
     parser.add_argument("--at", type=int, metavar="TIME", help="with --draw: each net's frame under this time too")
     asked = parser.parse_args()
     if asked.at is not None and not (asked.draw and 0 <= asked.at <= MOST_TIME):
@@ -176,11 +208,13 @@ def main():
         with open(asked.text, encoding="utf-8-sig", errors="replace") as text:
             inputs, gates = read_text(text.read().split("\n"))
         if asked.draw:
-            print("\n".join(draw([net.name for net in inputs + gates], sys.stdin.read().splitlines(), asked.at)))
+            output = [line for line in sys.stdin.read().splitlines() if line]  # outside ends with an empty line
+            print("\n".join(draw([net.name for net in inputs + gates], output, asked.at)))
         elif sys.stdout.isatty():
             raise Fault("the output is no text: send it to a file with > FILE")
         else:
-            sys.stdout.buffer.write((circuit_file if asked.circuit else wave_input)(inputs, gates))
+            write = circuit_file if asked.circuit else outside_input if asked.outside else wave_input
+            sys.stdout.buffer.write(write(inputs, gates))
     except Fault as fault:
         sys.exit(f"{asked.text}: {fault}")
     except OSError as fault:

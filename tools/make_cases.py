@@ -4,12 +4,13 @@
 The tops of crates/cases/src/main.rt, crates/marks/src/main.rt and crates/testbench/src/lib.rt say what a case and its line
 are. What the reader must answer is known by the way a file is made: a circuit within the limits, or one fault put into its
 file, or more, of which the earliest counts. Nothing here reads a file back. What the calls must answer and leave is worked
-out by document 01's rules: Plan net by net, with sets and counts and none of the programs' ways; Run lane by lane, with
+out by the papers' rules: Plan net by net, with sets and counts and none of the programs' ways; Run lane by lane, with
 Bools, compared with the time-by-time machine in some lanes of every case at every time of every net; Mark time by time on
 the machine's levels. Run it from the repository's root; building and testing need none of it.
 """
 import collections
 import functools
+import itertools
 import random
 
 rng = random.Random(7)
@@ -41,9 +42,21 @@ def file_of(inputs, records, shift={}, lengths={}, tail=b""):
 # ---- Plan, by the rules
 
 
-def frames(inputs, records):
+def moments_of(inputs, counts, changes):
+    """The change times of each input, from the two lists; nothing for 20."""
+    own = [changes[end - count:end] for count, end in zip(counts, itertools.accumulate(counts))]
+    right = len(counts) == inputs and max(counts) <= 8 and sum(counts) == len(changes)
+    return own if right and all(times == sorted({*times} & {*range(1, 256)}) for times in own) else None
+
+
+def once(inputs):
+    """The change times of inputs that change once, at 1."""
+    return [[1] for _ in range(inputs)]
+
+
+def frames(moments, records):
     """The frames of each net: times, inertial indices, fan-in rows."""
-    nets = [([0, 1], [0, 0], []) for _ in range(inputs)]
+    nets = [([0, *times], [0] * (1 + len(times)), []) for times in moments]
     for r in records:
         sources = [nets[f][0] for f in r.fanins]
         times = sorted({0} | {s + r.d for source in sources for s in source if s != 0})
@@ -81,10 +94,10 @@ def outputs(r):
     return [output != (r.kind % 2 == 1) for output in first]
 
 
-def evaluate(nets, records, pairs):
-    """The levels of one lane, net by net and frame by frame: raw, then filtered. A pair is an input's before and after."""
-    levels = [list(pair) for pair in pairs]
-    for r, (_, inertial, rows) in zip(records, nets[len(pairs):]):
+def evaluate(nets, records, driven):
+    """The levels of one lane, net by net and frame by frame: raw, then filtered. The inputs are driven, frame by frame."""
+    levels = [list(own) for own in driven]
+    for r, (_, inertial, rows) in zip(records, nets[len(driven):]):
         output = outputs(r)
         raw = [output[sum(levels[f][k] for f, k in zip(r.fanins, row))] for row in rows]
         kept = raw[:1]
@@ -94,13 +107,13 @@ def evaluate(nets, records, pairs):
     return levels
 
 
-def machine(records, pairs, until):
+def machine(records, moments, driven, until):
     """The levels of one lane, net by net and time by time, by the machine that knows no frames."""
-    need = [until] * (len(pairs) + len(records))  # the last time to be known of each net
+    need = [until] * (len(driven) + len(records))  # the last time to be known of each net
     for j in reversed(range(len(records))):
         for f in records[j].fanins:
-            need[f] = max(need[f], need[len(pairs) + j] + records[j].di - records[j].d)
-    waves = [[before] + [after] * need[i] for i, (before, after) in enumerate(pairs)]
+            need[f] = max(need[f], need[len(driven) + j] + records[j].di - records[j].d)
+    waves = [[own[sum(s <= t for s in times)] for t in range(end + 1)] for times, own, end in zip(moments, driven, need)]
     for r in records:
         output, end = outputs(r), need[len(waves)]
         raw = [output[sum(waves[f][max(t - r.d, 0)] for f in r.fanins)] for t in range(end + r.di + 1)]
@@ -112,26 +125,35 @@ def machine(records, pairs, until):
 
 
 class Run:
-    """An accepted circuit with words: the values net by net, and the machine's waves lane by lane."""
+    """An accepted circuit with change times and words: the values net by net, and the machine's waves lane by lane. Without
+    lists of change counts and times every input changes once, at 1."""
 
-    def __init__(self, inputs, records, before, after):
+    def __init__(self, inputs, records, before, after, counts=None, changes=None):
         self.records, self.before, self.after, self.waves = records, before, after, {}
-        self.nets = frames(inputs, records)
+        self.counts, self.changes = [1] * inputs if counts is None else counts, [1] * inputs if changes is None else changes
+        self.moments, self.plan = moments_of(inputs, self.counts, self.changes), None
+        self.fault = 11 if [len(before), len(after)] != [inputs, len(self.changes)] else 20 if self.moments is None else 0
+        if self.moments is None:
+            return
+        self.nets = frames(self.moments, records)
         self.times = [times for times, _, _ in self.nets]
         self.plan = planned(self.nets)
         self.last = max(t for times in self.times for t in times)
-        if self.plan and len(before) == len(after) == inputs:
-            self.lanes = [evaluate(self.nets, records, self.pairs(lane)) for lane in range(64)]
+        if self.plan and not self.fault:
+            self.lanes = [evaluate(self.nets, records, self.driven(lane)) for lane in range(64)]
             packed = zip(*self.lanes)
             self.values = [[sum(level << lane for lane, level in enumerate(frame)) for frame in zip(*net)] for net in packed]
 
-    def pairs(self, lane):
-        return [(b >> lane & 1 == 1, a >> lane & 1 == 1) for b, a in zip(self.before, self.after)]
+    def driven(self, lane):
+        """The inputs' levels in a lane: the bit of the before word and those of the input's own after words."""
+        rest = iter(self.after)
+        words = [[before, *itertools.islice(rest, count)] for before, count in zip(self.before, self.counts)]
+        return [[word >> lane & 1 == 1 for word in own] for own in words]
 
     def wave(self, net, lane):
         """The levels of a net in a lane by the machine, until after the last potential time. Every net has to agree."""
         if lane not in self.waves:
-            self.waves[lane] = machine(self.records, self.pairs(lane), self.last + 1)
+            self.waves[lane] = machine(self.records, self.moments, self.driven(lane), self.last + 1)
             for times, levels, wave in zip(self.times, self.lanes[lane], self.waves[lane]):
                 assert wave == [level_at(times, levels, t) for t in range(self.last + 2)]
         return self.waves[lane][net]
@@ -225,15 +247,17 @@ def plan_part(run, lengths, untouched):
     """What Plan answers and leaves. It is not handed the values."""
     if lengths[:4] != RIGHT[:4]:
         return with_sums("refused 10", untouched[:4])
+    if run.moments is None:
+        return with_sums("refused 20", untouched[:4])
     if not run.plan:
         return with_sums("refused 13", CLEARED[:4])
     answer, areas = run.plan
     return with_sums(answer, left(areas))
 
 
-def asked_of(run, inputs, lengths):
-    """The first "no" among Run's questions behind the reader's, or 0."""
-    return 10 if lengths != RIGHT else 11 if [len(run.before), len(run.after)] != [inputs] * 2 else 0
+def asked_of(run, lengths):
+    """The first "no" among Run's questions behind the reader's and before 13, or 0."""
+    return 10 if lengths != RIGHT else run.fault
 
 
 def sums_after(run, fault, untouched):
@@ -261,7 +285,7 @@ def case_line(number, inputs, run, lengths, rubbish, net, time):
         refused = f"refused {number}"
         return [refused, with_sums(refused, untouched[:4]), refused, with_sums(refused, untouched)]
     read = f"accepted {inputs} {len(run.records)}"
-    asked = asked_of(run, inputs, lengths)
+    asked = asked_of(run, lengths)
     fault = asked or (0 if run.plan else 13)
     ran = with_sums(f"refused {fault}" if fault else run.plan[0], sums_after(run, fault, untouched))
     line = [read, plan_part(run, lengths, untouched), f"refused {asked}" if asked else read, ran]
@@ -271,7 +295,7 @@ def case_line(number, inputs, run, lengths, rubbish, net, time):
 def mark_line(number, inputs, run, lengths, rubbish, expectations):
     """What Mark answers and leaves."""
     untouched = filled(lengths, rubbish)
-    fault = number or asked_of(run, inputs, lengths)
+    fault = number or asked_of(run, lengths)
     if not fault and not all(suits(e, inputs + len(run.records)) for e in expectations):
         fault = 12
     fault = fault or (0 if run.plan else 13)
@@ -285,8 +309,9 @@ def add(file, number, inputs, run, lengths=RIGHT, rubbish=None, net=0, time=0, e
     """A case with a circuit, for both programs: the reader's number, or 0 with the inputs and the run of an accepted file."""
     rubbish = rng.randrange(65536) if rubbish is None else rubbish
     head = len(file).to_bytes(4, "little") + b"".join(map(two, lengths)) + two(rubbish)
-    head += bytes([len(run.before), len(run.after)])
-    data = file + b"".join(word.to_bytes(8, "little") for word in run.before + run.after)
+    head += bytes([len(run.counts)]) + two(len(run.changes)) + bytes([len(run.before)]) + two(len(run.after))
+    data = file + bytes(run.counts) + b"".join(map(two, run.changes))
+    data += b"".join(word.to_bytes(8, "little") for word in run.before + run.after)
     records = b"".join(two(n) + bytes([l]) + two(a) + two(b) + bytes([x]) for n, l, a, b, x in expectations)
     marks.append((bytes([len(expectations)]) + head + data + records,
                   mark_line(number, inputs, run, lengths, rubbish, expectations)))
@@ -296,15 +321,16 @@ def add(file, number, inputs, run, lengths=RIGHT, rubbish=None, net=0, time=0, e
 
 
 class Words:
-    """The words of a case whose file is refused."""
+    """The words of a case whose file is refused, and change times."""
 
     def __init__(self, before, after):
         self.before, self.after = before, after
+        self.counts, self.changes = [1] * len(before), [1] * len(after)
 
 
 @functools.lru_cache(None)
-def run_of(inputs, records, before, after):
-    return Run(inputs, list(records), list(before), list(after))
+def run_of(inputs, records, *lists):
+    return Run(inputs, list(records), *map(list, lists))
 
 
 def random_words(count):
@@ -328,11 +354,14 @@ def some_expectations(run, most, lanes):
     return out
 
 
-def good(inputs, records, before=None, after=None, **more):
-    """An accepted file. What the case does not say is taken at random, looks mostly at the last nets."""
-    before, after = before or random_words(inputs), after or random_words(inputs)
-    run = run_of(inputs, tuple(records), tuple(before), tuple(after))
-    if run.plan and more.get("lengths", RIGHT) == RIGHT and len(before) == len(after) == inputs:
+def good(inputs, records, before=None, after=None, moments=None, **more):
+    """An accepted file. What the case does not say is taken at random, looks mostly at the last nets. Without times for each
+    input they change once, at 1."""
+    moments = moments or once(inputs)
+    counts, changes = list(map(len, moments)), list(itertools.chain(*moments))
+    before, after = before or random_words(inputs), after or random_words(len(changes))
+    run = run_of(inputs, tuple(records), tuple(before), tuple(after), tuple(counts), tuple(changes))
+    if run.plan and more.get("lengths", RIGHT) == RIGHT and not run.fault:
         lanes = rng.sample(range(64), 2 if len(records) < 128 else 1)
         run.wave(0, lanes[0])
         more.setdefault("net", max(0, len(run.nets) - 1 - rng.choice([0, 0, 0, 1, 2])))
@@ -436,7 +465,7 @@ good(1, [Record(BUF, 1, 0, [0]), Record(BUF, 2, 0, [0]), Record(BUF, 3, 0, [0]),
 
 def bench(records, times, levels):
     """A circuit whose last net has these times, and in a lane that rises these levels."""
-    nets = frames(1, records)
+    nets = frames(once(1), records)
     assert nets[-1][0] == times and evaluate(nets, records, [(False, True)])[-1] == [level == 1 for level in levels]
     good(1, records)
 
@@ -515,7 +544,7 @@ bench([step(2 + k) for k in range(7)] + [Record(XNOR, 1, 1, list(range(1, 8)))],
 
 def counts(inputs, gates):
     """How many frames each net has."""
-    return [len(times) for times, _, _ in frames(inputs, gates)]
+    return [len(times) for times, _, _ in frames(once(inputs), gates)]
 
 
 def comb(n):
@@ -764,12 +793,181 @@ for n in (2, 63, 64):  # the first frame, the second, the last but one and the l
             look(times, random_words(n), 63, time)
 for time in (65534, 65535):  # a frame of one unit at the end of all times
     look([0, 65535], [0, 1], 0, time)
-ends = frames(1, comb(64))[18][0][-3:]
+ends = frames(once(1), comb(64))[18][0][-3:]
 for time in (0, 1, 65535, *ends, *(t - 1 for t in ends)):  # after a run: the net of 64 frames, and one that it reads
     good(1, comb(64), [0], [2**64 - 1], net=18, time=time)
     good(1, comb(64), [0], [2**64 - 1], net=17, time=time)
 for time in range(9):  # a pulse of 2 units that an inertial delay of 2 swallows: its frames are there all the same
     good(1, wave_circuit(2) + [Record(BUF, 3, 0, [2])], [0], [2**64 - 1], net=3, time=time)
+
+# ---- inputs that change at times of their own
+
+
+def drive(records, stimuli, times, levels):
+    """A circuit whose inputs have these levels, a list of pairs of a time and a level each, the first at 0. Its last net has
+    these times, and these levels at them."""
+    moments = [[time for time, _ in own[1:]] for own in stimuli]
+    nets, stimulus = frames(moments, records), [[level == 1 for _, level in own] for own in stimuli]
+    assert nets[-1][0] == times and evaluate(nets, records, stimulus)[-1] == [level == 1 for level in levels]
+    words = [[level * (2**64 - 1) for _, level in own] for own in stimuli]
+    for time in (0, times[-1]):
+        good(len(stimuli), records, [own[0] for own in words], [word for own in words for word in own[1:]], moments,
+             net=len(nets) - 1, time=time)
+    good(len(stimuli), records, moments=moments)
+
+
+pulse = [(0, 0), (4, 1), (9, 0)]  # a pulse of 5 units
+drive([Record(XOR, 2, 0, [0, 1])], [pulse, [(0, 0)]], [0, 6, 11], [0, 1, 0])
+drive([Record(XOR, 2, 0, [0, 1]), Record(NOT, 3, 0, [1])], [pulse, [(0, 0)]], [0], [1])  # its one fan-in never changes
+drive([Record(BUF, 3, 4, [0])], [pulse], [0, 7, 12], [0, 1, 0])
+drive([Record(BUF, 3, 5, [0])], [pulse], [0, 7, 12], [0, 0, 0])
+drive([Record(BUF, 1, 1, [0])], [[(0, 0), (4, 1), (5, 0), (7, 1)]], [0, 5, 6, 8], [0, 0, 0, 1])  # as row F
+drive([Record(BUF, 1, 2, [0])], [[(0, 0), (4, 1), (5, 1), (6, 0)]], [0, 5, 6, 7], [0, 0, 0, 0])  # as row H
+drive([Record(XOR, 1, 0, [0, 1])], [pulse, [(0, 1), (4, 0), (9, 0)]], [0, 5, 10], [1, 1, 0])  # both change at 4
+drive([Record(BUF, 5, 0, [0]), Record(AND, 1, 0, [0, 1])], [pulse], [0, 5, 10, 15], [0, 0, 0, 0])  # 9 is 4 + 5: one time
+drive([Record(BUF, 4, 0, [0]), Record(AND, 1, 0, [0, 1])], [pulse], [0, 5, 9, 10, 14], [0, 0, 1, 0, 0])
+drive([Record(NOT, 63, 63, [0])], [[(0, 1), (255, 0)]], [0, 318], [0, 1])
+
+# none, one and eight changes, at the first times, the last and any between; a change at 1 beside others; no gates, and many
+wide = [Record(kind, 1, 0, list(range(8))) for kind in range(AND, XNOR + 1)]
+for times in ([], [1], [255], [1, 2], [254, 255], [1, 255], [*range(1, 9)], [*range(248, 256)], [*range(31, 256, 32)]):
+    good(1, [], moments=[times])
+    good(1, [buf, Record(XNOR, 1, 1, [0, 1])], moments=[times])
+    good(2, [Record(AND, 2, 1, [0, 1]), Record(NOT, 1, 0, [2])], moments=[times, [1]])
+    good(2, [Record(OR, 2, 1, [0, 1]), Record(NOT, 1, 0, [2])], moments=[[100], times])
+    good(32, [], moments=[times] * 32)
+    good(32, wide, moments=[times] * 31 + [[7]])
+    good(32, [Record(AND, 63, 63, [31 + j] * 8) for j in range(128)], moments=[[]] * 31 + [times])  # last time 255 + 128 * 63
+    good(1, [Record(AND, 1, 0, [j] * 2) for j in range(128)], moments=[times])
+
+
+def bursts(inputs, most, last):
+    """Up to so many changes of each input, at any times up to the last."""
+    return [sorted(rng.sample(range(1, last + 1), rng.randint(0, most))) for _ in range(inputs)]
+
+
+for size in ((1, 12, 4), (2, 12, 6), (3, 20, 8), (4, 40, 10), (8, 60, 30), (16, 128, 60), (32, 128, 100)):
+    for most, last in ((2, 9), (3, 40), (8, 16), (8, 255)):
+        good(size[0], lively(*size), moments=bursts(size[0], most, last))
+for turn in range(40):
+    inputs, gates = rng.choice([1, 2, 5, 32]), rng.choice([1, 2, 3, 8, 24])
+    gates = [Record(*g) for g in circuit(inputs, gates)]
+    good(inputs, gates, moments=bursts(inputs, rng.choice([2, 8]), rng.choice([8, 255])))
+
+# words that agree in one lane alone: what is seen in that lane is the same
+for lane in (0, 17, 63):
+    gates, moments = lively(3, 15, 8), bursts(3, 5, 30)
+    lists = [random_words(3), random_words(sum(map(len, moments)))]
+    others = [[word & 1 << lane | rng.getrandbits(64) & ~(1 << lane) for word in words] for words in lists]
+    for net in (0, 9, 17):
+        for words in (lists, others):
+            good(3, gates, *words, moments, net=net, time=35)
+    ran, again = (Run(3, gates, *words, list(map(len, moments)), [*itertools.chain(*moments)]) for words in (lists, others))
+    assert not ran.plan or [ran.wave(net, lane) for net in range(18)] == [again.wave(net, lane) for net in range(18)]
+
+
+# ---- question 20, and its place among the others
+
+
+def handed(inputs, records, counts, changes, before=None, after=None, **more):
+    """An accepted file with any lists; as many words as 11 asks for, unless they are given."""
+    before = random_words(inputs) if before is None else before
+    after = random_words(len(changes)) if after is None else after
+    add(file_of(inputs, records), 0, inputs, Run(inputs, records, before, after, counts, changes), **more)
+
+
+RISING = [1, 40, 254, 255]
+SUITED = [  # counts and times that pass, for two inputs
+    ([2, 1], [3, 9, 1]), ([1, 2], [9, 3, 9]), ([0, 0], []), ([0, 3], [5, 6, 7]), ([3, 0], [5, 6, 255]), ([2, 2], [1, 2, 1, 2]),
+    ([8, 8], [*range(1, 9)] * 2), ([4, 4], RISING * 2), ([1, 1], [255, 1])]
+UNSUITED = [
+    # not two counts
+    ([], []), ([2], [3, 9]), ([3], [3, 9, 11]), ([2, 1, 0], [3, 9, 1]), ([2, 1, 1], [3, 9, 1, 1]), ([1] * 80, [1] * 80),
+    ([0] * 80, []), ([], [3, 9, 1]),
+    # a count above 8
+    ([9, 0], [*range(1, 10)]), ([0, 9], [*range(1, 10)]), ([255, 0], [*range(1, 256)]), ([9, 9], [*range(1, 10)] * 2),
+    # counts that do not add up to the times
+    ([2, 1], []), ([2, 1], [3, 9]), ([2, 1], [3, 9, 1, 2]), ([0, 0], [1]), ([1, 1], [1]), ([0, 1], [1, 2]), ([1, 0], [1, 2]),
+    ([8, 8], [*range(1, 9)]), ([2, 1], [1] * 400),
+    # a time that is not from 1 to 255
+    ([2, 1], [0, 9, 1]), ([2, 1], [3, 9, 0]), ([2, 1], [3, 256, 1]), ([2, 1], [3, 9, 256]), ([2, 1], [3, 65535, 1]),
+    ([2, 1], [3, 9, 259]), ([1, 1], [0, 0]), ([2, 0], [0, 1]), ([1, 1], [256, 256]),
+    # times of an input that do not rise
+    ([2, 1], [9, 9, 1]), ([2, 1], [9, 3, 1]), ([1, 2], [9, 3, 3]), ([1, 2], [1, 9, 3]), ([4, 4], RISING + [1, 40, 40, 255]),
+    ([4, 4], [40, 1, 254, 255] + RISING), ([4, 4], RISING + [1, 40, 255, 254]),
+    ([8, 8], [1, 2, 3, 4, 5, 6, 7, 7, *range(1, 9)])]
+crowded = [Record(g.kind, g.d, g.di, [f + 1 if f else 0 for f in g.fanins]) for g in comb(65)]  # 13 at one change already
+for suited, pairs in ((True, SUITED), (False, UNSUITED)):
+    for counts, changes in pairs:
+        assert (moments_of(2, counts, changes) is not None) == suited
+        handed(2, small, counts, changes)
+        handed(2, [], counts, changes, expectations=[(0, 0, 0, 0, 0)])
+        handed(2, crowded, counts, changes)
+handed(32, [], [8] * 32, [*range(1, 9)] * 32)
+handed(32, [], [8] * 31 + [9], [*range(1, 9)] * 31 + [*range(1, 10)])
+handed(32, [], [8] * 32, [])  # 256 is 0 in one byte
+handed(2, small, [0, 0], [1] * 256)
+handed(32, [], [8] * 32, [*range(1, 9)] * 31 + [1, 2, 3, 4, 5, 6, 7, 256])
+for number, data in ((1, b""), (5, file_of(1, [buf], tail=b"\0")), (9, file_of(1, [Record(NOT, 1, 0, [1])]))):
+    for counts, changes in UNSUITED[::6]:  # a refused file before all
+        words = Words(random_words(1), random_words(2))
+        words.counts, words.changes = counts, changes
+        add(data, number, 0, words)
+for lengths in around(RIGHT):  # 10 before 11 and 20; Plan does not ask about the values
+    handed(2, small, [2, 1], [3, 9, 1], lengths=lengths)
+    handed(2, small, [2, 1], [9, 3, 1], lengths=lengths)
+    handed(2, small, [2, 1], [9, 3, 1], after=[], lengths=lengths)
+for counts, changes in (SUITED[0], SUITED[2], ([2, 1], [9, 3, 1]), ([9, 0], [*range(1, 10)]), ([2], [3, 9]), ([1, 1], [1])):
+    total = len(changes)  # 11 before 20, and by the number of times alone
+    for before, after in ((1, total), (3, total), (2, total + 1), (2, max(0, total - 1)), (2, 0), (2, 2), (total, 2)):
+        handed(2, small, counts, changes, random_words(before), random_words(after))
+        handed(2, crowded, counts, changes, random_words(before), random_words(after), expectations=[(65535, 64, 1, 0, 2)])
+handed(2, small, *SUITED[0], after=random_words(400))
+for wrong in ((65535, 0, 0, 0, 0), (0, 64, 0, 0, 0), (0, 0, 1, 0, 0), (0, 0, 0, 0, 2)):  # 20 before 12, 12 before 13
+    for counts, changes in (([2, 1], [3, 9, 1]), ([2, 1], [3, 9, 0]), ([2, 1, 0], [3, 9, 1])):
+        handed(2, small, counts, changes, expectations=[wrong])
+        handed(2, crowded, counts, changes, expectations=[(0, 0, 0, 0, 0), wrong])
+
+# question 13 where bursts alone make the frames too many: a net of 64 or 65 frames from copies of an input with eight changes
+for late in (56, 57):
+    gates = [Record(BUF, d, 0, [0]) for d in (1, 9, 17, 25, 33, 41, 49, late)] + [Record(OR, 1, 3, list(range(1, 9)))]
+    for last in (1, 4, 7, 8):
+        good(1, gates, moments=[[*range(1, last + 1)]])
+    good(1, gates, moments=[[*range(248, 256)]])
+    good(1, gates + [buf], moments=[[*range(1, 9)]])
+# and 2,047 to 2,049 in all, by changes of inputs that no gate reads
+for last in ([], [1], [9, 255]):
+    gates = [Record(BUF, d, 0, [0]) for d in (1, 9, 17, 25, 33, 41, 49, 56)] + [Record(OR, 1, 3, list(range(7, 15)))]
+    gates += [Record(NOT, 1 + k % 3, k % 4, [15]) for k in range(29)]
+    moments = [[*range(1, 9)]] + [[*range(2, 10)]] * 5 + [last]
+    assert sum(len(times) for times, _, _ in frames(moments, gates)) == 2047 + len(last)
+    good(7, gates, moments=moments)
+
+# ---- Mark on bursts
+
+carry = [Record(NOT, 1, 0, [0]), Record(AND, 2, 0, [3, 1, 2]), Record(NOR, 2, 0, [0, 1, 2]), Record(NOR, 2, 2, [0, 1, 2]),
+         Record(XOR, 2, 0, [0, 1, 2])]
+bits = [[10 * k for k in range(1, 9)], [22, 42, 62, 82], [44, 84]]  # a counter's bits
+ticking = [[0] * 3, [word for times in bits for word in [2**64 - 1, 0] * (len(times) // 2)]]
+lanes_apart = [random_words(3), random_words(14)]
+for words in (ticking, lanes_apart):
+    run = Run(3, carry, *words, list(map(len, bits)), [*itertools.chain(*bits)])
+    for net in range(8):
+        for lane in (0, 41):
+            all_spans = spans(run, net, lane)
+            met = [(net, lane, start, end, level) for start, end, level in all_spans]
+            good(3, carry, *words, bits, expectations=tuple(met[:12]), marked_only=True)
+            k = rng.randrange(min(12, len(met)))
+            good(3, carry, *words, bits, expectations=tuple(met[:k] + [broken(met[k])] + met[k + 1:12]), marked_only=True)
+            start, end, level = all_spans[k]
+            for a, b in ((start, 65535), (max(0, start - 1), start), (end, min(65535, end + 1)), (0, start)):
+                good(3, carry, *words, bits, expectations=((net, lane, a, b, level),), marked_only=True)
+for before in (0, 2**64 - 1):  # no changes: one frame on each net, without an end
+    for net in (0, 3, 4, 7):
+        level = int(Run(3, carry, [before] * 3, [], [0] * 3, []).wave(net, 63)[0])
+        for a, b in ((0, 0), (0, 65535), (65535, 65535)):
+            for expected in (level, 1 - level):
+                good(3, carry, [before] * 3, [], [[]] * 3, expectations=((net, 63, a, b, expected),), marked_only=True)
 
 # ---- written out; a last case that the program's buffers do not hold ends each run
 
@@ -784,8 +982,8 @@ def write(program, made, too_large):
 
 
 lengths = b"".join(map(two, RIGHT))
-write("cases", cases, b"c" + bytes(4) + (70001).to_bytes(4, "little") + lengths + bytes(4))  # a file of 70,001 bytes
-write("marks", marks, b"\x0d" + (4).to_bytes(4, "little") + lengths + bytes(4))  # 13 expectations
+write("cases", cases, b"c" + bytes(4) + (70001).to_bytes(4, "little") + lengths + bytes(8))  # a file of 70,001 bytes
+write("marks", marks, b"\x0d" + (4).to_bytes(4, "little") + lengths + bytes(8))  # 13 expectations
 
 lines = [line for data, line in cases if data[:1] == b"c"]
 print("cases:", len(lines), "circuits,", sum("; planned" in line for line in lines), "planned,",

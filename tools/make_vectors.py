@@ -3,20 +3,21 @@
 
     python3 tools/make_vectors.py [SEED]
 
-The circuits and their words are made here from the seed. What the nets then do is worked out by GHDL, a VHDL simulator by
-another hand, from a translation of every circuit: its own pulse rejection is the inertial filter, and every time, word and
-count in stdout is read from the changes that it dumps. Of the paper's rules only the kinds' functions stand here, as VHDL,
-and the potential times, to choose circuits within the limits. The vectors that are turned down come first; their numbers
-are known by the way they are made.
+The circuits, their inputs' change times and their words are made here from the seed. What the nets then do is worked
+out by GHDL, a VHDL simulator by another hand, from a translation of every circuit: its own pulse rejection is the
+inertial filter, and every time, word and count in stdout is read from the changes that it dumps. Of the paper's rules
+only the kinds' functions stand here, as VHDL, and the potential times, to choose circuits within the limits. The
+vectors that are turned down come first; their numbers are known by the way they are made.
 Run it from the repository's root; building and testing need none of it. It needs `ghdl`.
 """
+import itertools
 import random
 import re
 import subprocess
 import sys
 import tempfile
 
-CIRCUITS = 320
+CIRCUITS, BURSTS = 320, 140  # how many whose inputs change once, at 1, and how many whose inputs change in bursts
 BUF, NOT, AND, NAND, OR, NOR, XOR, XNOR = range(8)
 COPY = [BUF, NOT]
 ANY = [AND, NAND, OR, NOR, XOR, XNOR]
@@ -47,9 +48,9 @@ class Circuit:
             at += len(record)
         return two(self.inputs) + two(len(records)) + pairs + b"".join(records)
 
-    def frames(self):
-        """How many potential times each net has."""
-        times = [{0, 1} for _ in range(self.inputs)]
+    def frames(self, moments):
+        """How many potential times each net has, with these change times for each input."""
+        times = [{0, *own} for own in moments]
         for _, d, _, fanins in self.gates:
             times.append({0} | {s + d for f in fanins for s in times[f] if s})
         return [len(t) for t in times]
@@ -171,10 +172,15 @@ def circuits(rng):
         crowd = turn % 20 == 9
         shape, *more = (crowded, 26 if turn % 160 == 9 else 4) if crowd else SHAPES[turn % len(SHAPES)]
         c = shape(rng, *more)
-        frames = c.frames()
+        frames = c.frames(once(c))
         if max(frames) == 64 and sum(frames) <= 2048 if crowd else max(frames) < 64 and sum(frames) <= 200:
             made.append(c)
     return made
+
+
+def once(c):
+    """Every input changes once, at 1."""
+    return [[1]] * c.inputs
 
 
 def words(rng, inputs):
@@ -188,6 +194,30 @@ def words(rng, inputs):
     return a, b
 
 
+def burst(rng, most, last):
+    """Up to so many change times up to the last, the last one often among them."""
+    times = rng.sample(range(1, last + 1), rng.randint(0, most))
+    return sorted({*times[1:], last} if times and rng.random() < 0.2 else times)
+
+
+def bursting(rng):
+    """The shapes in turn with inputs that change in bursts, on a net up to 64 frames; before words and after words."""
+    made = []
+    while len(made) < BURSTS:
+        shape, *more = SHAPES[len(made) % len(SHAPES)]
+        c, (most, last) = shape(rng, *more), rng.choice([(2, 6), (3, 20), (5, 60), (8, 10), (8, 255)])
+        moments = [burst(rng, most, last) for _ in range(c.inputs)]
+        frames = c.frames(moments)
+        if max(frames) <= 64 and 3 * c.nets() <= sum(frames) <= 300:
+            before, after = [rng.getrandbits(64) for _ in moments], []
+            for word, times in zip(before, moments):
+                for _ in times:  # every lane at random, or few that change
+                    turned = rng.getrandbits(64) & (rng.getrandbits(64) if rng.random() < 0.3 else -1)
+                    after.append(word := word ^ turned)
+            made.append((c, moments, before, after))
+    return made
+
+
 # ---- the simulator
 
 
@@ -197,7 +227,7 @@ def function(kind, names):
     return f"not ({first[kind // 2]})" if kind % 2 else first[kind // 2]
 
 
-def translate(j, c, before, after, start):
+def translate(j, c, moments, before, after, start):
     """Circuit j's signals and statements, by how much each net is late, and when all are settled.
 
     VHDL drops a pending change where the next one is no further behind it than the reject limit: with the limit di a pulse
@@ -206,9 +236,9 @@ def translate(j, c, before, after, start):
     for them on a transport delay. No delay is 0, so fan-ins that change at one time change together, before a gate is worked
     out again: there is no pulse of width 0. Each lane of a vector has a driver of its own."""
     signals, lines = [f"c{j}n{net}" for net in range(c.nets())], []
-    late, settled = [0] * c.inputs, [0] * c.inputs
-    for net in range(c.inputs):
-        lines.append(f'{signals[net]} <= x"{before[net]:016x}", x"{after[net]:016x}" after {start + 1} ns;')
+    late, settled, rest = [0] * c.inputs, [0] * c.inputs, iter(after)
+    for name, word, times in zip(signals, before, moments):
+        lines.append(f'{name} <= x"{word:016x}"' + "".join(f', x"{next(rest):016x}" after {start + t} ns' for t in times) + ";")
     for net, (kind, d, di, fanins) in enumerate(c.gates, c.inputs):
         latest, delay, names = max(late[f] for f in fanins), max(d, di + 1), []
         for f in fanins:
@@ -261,8 +291,9 @@ def from_zero(pairs, zero):
 # ---- written out
 
 
-def wave_input(file, words):
-    return two(len(file)) + file + b"".join(word.to_bytes(8, "little") for word in words)
+def vector(file, counts, times, words):
+    lists = bytes(counts) + b"".join(map(two, times)) + b"".join(word.to_bytes(8, "little") for word in words)
+    return two(len(file)) + two(len(times)) + file + lists
 
 
 def line(net, changes):
@@ -276,18 +307,23 @@ def turned_down():
     own.add(BUF, 1, 0, 1)  # reads its own net
     for net in range(64):
         ladder.add(AND, 1, 0, net, 0)  # a frame more a gate, 65 in the end
-    head = wave_input(plain.file(), [])
-    return [(b"", 0), (head[:1], 0), (head[:-1], 0), (head + bytes(4097 - len(head)), 0), (head + bytes(4096 - len(head)), 11),
-            (wave_input(b"", []), 1), (wave_input(own.file(), [1]), 9), (head + bytes(15), 11), (head + bytes(17), 11),
-            (wave_input(ladder.file(), [1]), 11), (wave_input(ladder.file(), [1, 2]), 13)]
+    good, many = vector(plain.file(), [1], [1], [1, 2]), vector(ladder.file(), [1], [1], [1, 2])
+    told = [(b"", 0), (good[:1], 0), (good[:3], 0), (good[:7], 0), (good + bytes(4096 - len(good)), 11),
+            (vector(b"", [], [], []), 1), (vector(own.file(), [1], [1], [1]), 9), (good[:-1], 11), (good + bytes(1), 11), (many[:-8], 11), (many, 13)]
+    # a word too few or too many for the changes, and change times that do not suit: both are asked before the frames are counted
+    told += [(vector(c.file(), [1], times, [1, 2]), 11) for c in (plain, ladder) for times in ([], [0, 0])]
+    for counts, times in (([1], [0]), ([1], [256]), ([2], [3, 3]), ([2], [3, 2]), ([9], range(1, 10)), ([1], [1, 2]), ([1], []),
+                          ([0], [1]), ([255], range(1, 256)), ([8], [1] * 256), ([8], [1] * 257), ([1], [1] * 401)):
+        told += [(vector(c.file(), counts, times, [1] * (1 + len(times))), 20) for c in (plain, ladder)]
+    return told
 
 
 rng = random.Random(int(sys.argv[1]) if len(sys.argv) > 1 else 1)
-vectors = [(c, *words(rng, c.inputs)) for c in circuits(rng)]
+vectors = [(c, once(c), *words(rng, c.inputs)) for c in circuits(rng)] + bursting(rng)
 results = simulate(vectors)
 with open("crates/outside/stdin", "wb") as f:
-    inputs = [data for data, _ in turned_down()] + [wave_input(c.file(), before + after) for c, before, after in vectors]
-    f.writelines(two(len(data)) + data for data in inputs)
+    made = [vector(c.file(), map(len, moments), [*itertools.chain(*moments)], b + a) for c, moments, b, a in vectors]
+    f.writelines(two(len(data)) + data for data in [data for data, _ in turned_down()] + made)
     f.write(two(6) + bytes(5))  # the stream ends within this vector
 with open("crates/outside/stdout", "w") as f:
     f.writelines(f"refused {number}\n\n" for _, number in turned_down())
