@@ -1,7 +1,8 @@
-// Lent areas set to zeros: a function for each type of their entries.
+// Lent areas set to zeros: a function for each type of their entries, and one for the four areas that hold a plan.
 ghost use mathlib.Core.Path.{_≡_};
 ghost use Rattle.lists.specs.Areas.{cleared};
-use lists::Tick;
+ghost use Rattle.method.specs.Areas.{areas, allCleared};
+use method::Tick;
 
 // Sets every number of the area to 0.
 pub fn clear(area: &mut [u16])
@@ -45,4 +46,19 @@ pub fn clear_bytes(bytes: &mut [u8])
         bytes[b] = 0;
         b += 1;
     }
+}
+
+// Clears the areas of a plan.
+pub fn clear_plan(
+    directory: &mut [u16],
+    times: &mut [Tick],
+    inertial: &mut [u16],
+    fanins: &mut [u16],
+)
+    ensures { λ _. ⌜ areas (now (directory .exit)) (now (times .exit)) (now (inertial .exit)) (now (fanins .exit)) ≡ allCleared (areas (now (directory .entry)) (now (times .entry)) (now (inertial .entry)) (now (fanins .entry))) ⌝ }
+{
+    clear(directory);
+    clear_ticks(times);
+    clear(inertial);
+    clear(fanins);
 }

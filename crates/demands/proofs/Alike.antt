@@ -17,12 +17,14 @@ use Rattle.method.specs.Packed.{changesBefore, laneOf}
 use Rattle.method.specs.Lanes.{AgreeIn}
 use Rattle.method.proofs.Lanes.{same-values}
 use Rattle.method.specs.WordLists.{WordLists, lengthsOf}
-use Rattle.circuit.specs.Task.{Task, circuitIn, momentsIn, netsIn, timesIn, laneValues}
+use Rattle.method.specs.Sums.{limited}
+use Rattle.circuit.specs.Task.{Task, circuitIn, momentsIn, netsIn, framesIn, timesIn, laneValues}
+use Rattle.limiting.proofs.Last.{last-yes}
 use Rattle.engine.specs.Areas.{Areas}
 use Rattle.engine.specs.Questions.{areasSuit}
 use Rattle.engine.specs.After as engine
 use Rattle.engine.proofs.Asking.{passed-again}
-use Rattle.engine.proofs.Accepted.{parts, none, held, agree-all}
+use Rattle.engine.proofs.Accepted.{held, agree-all}
 use Rattle.expectations.specs.declared.Expectation.{Expectation}
 use Rattle.expectations.specs.Suits.{listSuits}
 use Rattle.expectations.specs.Verdict.{Verdict, verdictFrom}
@@ -52,13 +54,14 @@ one-circuit task task′ w same one list =
 
 -- ---- Mark accepts again, in areas of the right lengths
 
-marked-again : (task : Task) (w : WordLists) {left : Areas} → engine.LeftByRun task w left → (list : List Expectation) → listSuits (netsIn task) list ≡ true → (entry : Areas) → areasSuit entry ≡ true
-    → markOf task w entry list .answer ≡ accepted (verdict task w list)
-marked-again task w r list y entry s =
-    mark-accepts task w entry list
-    (ladder-none task (lengthsOf w) entry (listSuits (netsIn task) list)
+marked-again : (task : Task) (w : WordLists) {left : Areas} → engine.LeftByRun task w left → (list : List Expectation) → listSuits (netsIn task) list ≡ true
+    → (limit : ℕ) → limited limit (framesIn task) ≡ true → (entry : Areas) → areasSuit entry ≡ true
+    → markOf task limit w entry list .answer ≡ accepted (verdict task w list)
+marked-again task w r list y limit z entry s =
+    mark-accepts task limit w entry list
+    (ladder-none task limit (lengthsOf w) entry (listSuits (netsIn task) list)
     (passed-again task (lengthsOf w) (r .entry) entry (first-none-fails task w r) s) y
-    (parts task (lengthsOf w) (r .entry) (none task w r) .1))
+    (last-yes limit (framesIn task) (held task w r .fit) z))
 
 -- two answers with one verdict
 one-verdict : {x y : Answer Verdict} {v : Verdict} → x ≡ accepted v → y ≡ accepted v → SameVerdict x y
@@ -68,9 +71,10 @@ pub marked-alike : (task : Task) (w : WordLists) {left : Areas} (task′ : Task)
     → engine.LeftByRun task w left → engine.LeftByRun task′ w′ left′ → circuitIn task ≡ circuitIn task′ → task .schedule ≡ task′ .schedule
     → AgreeIn L (circuitIn task .inputs) (length (task .schedule .times)) w w′
     → (list : List Expectation) → listSuits (netsIn task) list ≡ true → Every (λ (e : Expectation). e .lane ≡ L) list
+    → (limit limit′ : ℕ) → limited limit (framesIn task) ≡ true → limited limit′ (framesIn task′) ≡ true
     → (entry entry′ : Areas) → areasSuit entry ≡ true → areasSuit entry′ ≡ true
-    → SameVerdict (markOf task w entry list .answer) (markOf task′ w′ entry′ list .answer)
-marked-alike task w task′ w′ L r r′ same one a list y only entry entry′ s s′ =
+    → SameVerdict (markOf task limit w entry list .answer) (markOf task′ limit′ w′ entry′ list .answer)
+marked-alike task w task′ w′ L r r′ same one a list y only limit limit′ z z′ entry entry′ s s′ =
     one-verdict
-    (marked-again task w r list y entry s ∙ ap accepted (same-verdict task w w′ L (agree-all task w w′ L (held task w r) a) list only))
-    (marked-again task′ w′ r′ list (rw same at y) entry′ s′ ∙ ap accepted (sym (one-circuit task task′ w′ same one list)))
+    (marked-again task w r list y limit z entry s ∙ ap accepted (same-verdict task w w′ L (agree-all task w w′ L (held task w r) a) list only))
+    (marked-again task′ w′ r′ list (rw same at y) limit′ z′ entry′ s′ ∙ ap accepted (sym (one-circuit task task′ w′ same one list)))

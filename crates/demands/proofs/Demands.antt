@@ -18,6 +18,7 @@ use Rattle.circuit.proofs.Gated.{questions-numbered}
 use Rattle.circuit.proofs.Faithful.{faithful}
 use Rattle.circuit.proofs.Bounded.{no-feedback}
 use Rattle.method.specs.Sums.{totalsOf}
+use Rattle.limiting.proofs.Last.{full-limited}
 use Rattle.planner.specs.Plan.{planOf}
 use Rattle.planner.specs.Questions as planner
 use Rattle.method.specs.Layout.{laid}
@@ -49,26 +50,26 @@ use Rattle.demands.proofs.Alike.{marked-alike}
 -- ---- demand 1
 
 -- Mark's first "no" is then Run's
-mark-as-run : (task : Task) (w : WordLists) (a : Areas) (list : List Expectation) → listSuits (netsIn task) list ≡ true → markOf task w a list .left ≡ runOf task w a .left
+mark-as-run : (task : Task) (limit : ℕ) (w : WordLists) (a : Areas) (list : List Expectation) → listSuits (netsIn task) list ≡ true → markOf task limit w a list .left ≡ runOf task limit w a .left
 unfolding markOf runOf
-mark-as-run task w a list y =
-    ap (λ (n : ℕ). runLeft n task w a) (ladder-run task (lengthsOf w) a _ y)
+mark-as-run task limit w a list y =
+    ap (λ (n : ℕ). runLeft n task w a) (ladder-run task limit (lengthsOf w) a _ y)
 
 demand-1 : Demand1
 unfolding circuit.readOf planOf runOf markOf levelOf countOf
 demand-1 =
     record {
       read = λ file. answered (circuit.questions file) (questions-numbered file) (circuit.inputsAndGatesOf file);
-      plan = λ task a. answered (planner.questions task a) (plan-numbered task a) (totalsOf (framesIn task));
-      plan-areas = λ task a. leaves (firstNo (planner.questions task a)) (totalsOf (framesIn task)) (laid (framesIn task) a) (plan.allCleared a) a;
-      run = λ task w a.
-          answered (engine.questions task (lengthsOf w) a) (all-numbered task (lengthsOf w) a) (totalsOf (framesIn task));
-      run-areas = λ task w a.
-          leaves (firstNo (engine.questions task (lengthsOf w) a)) (totalsOf (framesIn task)) (filled task w a) (allCleared a) a;
-      mark = λ task w a list.
-          answered (marking.questions task (lengthsOf w) a list) (ladder-numbered task (lengthsOf w) a _) (verdict task w list);
-      mark-areas = λ task w a list.
-          leaves (firstNo (marking.questions task (lengthsOf w) a list)) (verdict task w list) (filled task w a) (allCleared a) a;
+      plan = λ task limit a. answered (planner.questions task limit a) (plan-numbered task limit a) (totalsOf (framesIn task));
+      plan-areas = λ task limit a. leaves (firstNo (planner.questions task limit a)) (totalsOf (framesIn task)) (laid (framesIn task) a) (plan.allCleared a) a;
+      run = λ task limit w a.
+          answered (engine.questions task limit (lengthsOf w) a) (all-numbered task (lengthsOf w) a limit) (totalsOf (framesIn task));
+      run-areas = λ task limit w a.
+          leaves (firstNo (engine.questions task limit (lengthsOf w) a)) (totalsOf (framesIn task)) (filled task w a) (allCleared a) a;
+      mark = λ task limit w a list.
+          answered (marking.questions task limit (lengthsOf w) a list) (ladder-numbered task limit (lengthsOf w) a _) (verdict task w list);
+      mark-areas = λ task limit w a list.
+          leaves (firstNo (marking.questions task limit (lengthsOf w) a list)) (verdict task w list) (filled task w a) (allCleared a) a;
       mark-as-run = mark-as-run;
       level = λ times values L t. answered (lookQuestions times values L) (look-numbered times values L) (sight times (map (lane L) values) t);
       count = λ times values L. answered (lookQuestions times values L) (look-numbered times values L) (changes (map (lane L) values));
@@ -81,11 +82,11 @@ unfolding circuit.inputsAndGatesOf
 demand-2-method =
     record {
       every-net = λ file s e. let nets = net-by-net (circuitOf file) in (nets .0, nets .1 (no-feedback (circuitOf file) (faithful .within file s e)));
-      plan-read = λ task entry left totals e. accepted-read task entry e;
+      plan-read = λ task limit entry left totals e. accepted-read task limit entry e;
       run-read = λ task w left r. held task w (engine-ran task w r) .read;
-      plan-ordered = λ task entry left totals e. suited (inputsOf (task .file)) (task .schedule) (accepted-timed task entry e) .ordered;
+      plan-ordered = λ task limit entry left totals e. suited (inputsOf (task .file)) (task .schedule) (accepted-timed task limit entry e) .ordered;
       run-ordered = λ task w left r. suited (inputsOf (task .file)) (task .schedule) (held task w (engine-ran task w r) .timed) .ordered;
-      plan = λ task entry left totals e. accepted-kept task entry e;
+      plan = λ task limit entry left totals e. accepted-kept task limit entry e;
       run-plan = λ task w left r. held task w (engine-ran task w r) .plan-is;
       run-values = λ task w left r. held task w (engine-ran task w r) .values-are;
       counts = λ task w left r. past-run task w left r .count-is-own;
@@ -95,16 +96,16 @@ demand-2-method =
 demand-2-lengths : Demand2Lengths
 demand-2-lengths =
     record {
-      plan = λ task entry left totals e. accepted-lengths task entry e;
+      plan = λ task limit entry left totals e. accepted-lengths task limit entry e;
       run = λ task w left r. held task w r .suits;
-      mark = λ task w list v left m. held task w (mark-ran task w (m .entry) list (m .marked)) .suits;
+      mark = λ task w list v left m. held task w (mark-ran task (m .limit) w (m .entry) list (m .marked)) .suits;
     }
 
-mark-patterns : (task : Task) (w w′ : WordLists) (a : Areas) (list : List Expectation) → lengthsOf w ≡ lengthsOf w′
-    → SameRefusal (markOf task w a list .answer) (markOf task w′ a list .answer) × (markOf task w a list .left .plan ≡ markOf task w′ a list .left .plan)
+mark-patterns : (task : Task) (limit : ℕ) (w w′ : WordLists) (a : Areas) (list : List Expectation) → lengthsOf w ≡ lengthsOf w′
+    → SameRefusal (markOf task limit w a list .answer) (markOf task limit w′ a list .answer) × (markOf task limit w a list .left .plan ≡ markOf task limit w′ a list .left .plan)
 unfolding markOf
-mark-patterns task w w′ a list p = (
-  rw p (same-refusal (firstNo (marking.questions task (lengthsOf w′) a list)) (verdict task w list) (verdict task w′ list)),
+mark-patterns task limit w w′ a list p = (
+  rw p (same-refusal (firstNo (marking.questions task limit (lengthsOf w′) a list)) (verdict task w list) (verdict task w′ list)),
   plan-left _ task w a ∙ rw p (sym (plan-left _ task w′ a)),
 )
 
@@ -157,6 +158,7 @@ demand-3-alike =
       count = λ L task w left task′ w′ left′ two. two-alike L task w left task′ w′ left′ two .same-count;
       marking = λ L task w left task′ w′ left′ two.
           marked-alike task w task′ w′ L (engine-ran task w (two .ran)) (engine-ran task′ w′ (two .ran′)) (two .one-circuit) (two .one-schedule) (two .words-agree);
+      some-limit = λ task w left r. full-limited (framesIn task) (held task w (engine-ran task w r) .fit);
     }
 
 -- ---- all of them

@@ -17,7 +17,7 @@ use Rattle.demands.specs.Demands.{TwoRuns}
 -- either leaves what an accepted Run leaves
 pub engine-ran : (task : Task) (w : WordLists) {left : Areas} → Ran task w left → engine.LeftByRun task w left
 engine-ran task w (by-run r) = r
-engine-ran task w (by-mark list v m) = mark-ran task w (m .entry) list (m .marked)
+engine-ran task w (by-mark list v m) = mark-ran task (m .limit) w (m .entry) list (m .marked)
 
 pub past-run : (task : Task) (w : WordLists) (left : Areas) → Ran task w left → engine.After task w left
 past-run task w left r = after-runs .after-run task w left (engine-ran task w r)
@@ -30,4 +30,4 @@ two-alike L task w left task′ w′ left′ two =
 
 module _ (task : Task) (w : WordLists) {left : Areas} (r : engine.LeftByRun task w left) where
   pub first-none-fails : firstNo (firstQuestions task (lengthsOf w) (r .entry)) ≡ 0
-  first-none-fails = parts task (lengthsOf w) (r .entry) (none task w r) .0
+  first-none-fails = parts task (r .limit) (lengthsOf w) (r .entry) (none task w r) .0

@@ -7,3 +7,4 @@ pub mod Alike
 pub mod Demands
 pub mod Spans
 pub mod Once
+pub mod Limits

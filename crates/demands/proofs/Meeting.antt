@@ -87,7 +87,7 @@ module _ (task : Task) (w : WordLists) {left : Areas} (h : After task w left) wh
 
 module _ (task : Task) (w : WordLists) (list : List Expectation) (v : Verdict) (left : Areas) (m : Marked task w list v left) where
   past : After task w left
-  past = after-runs .after-run task w left (mark-ran task w (m .entry) list (m .marked))
+  past = after-runs .after-run task w left (mark-ran task (m .limit) w (m .entry) list (m .marked))
 
   abbrev ts : ℕ → List ℕ
   ts = times task w past
@@ -96,14 +96,14 @@ module _ (task : Task) (w : WordLists) (list : List Expectation) (v : Verdict) (
   vs = levels task w past
 
   suit : Every (Suits task w past) list
-  suit = each-suits (netsIn task) list (list-suits task w (m .entry) list (m .marked))
+  suit = each-suits (netsIn task) list (list-suits task (m .limit) w (m .entry) list (m .marked))
 
   sounds : Every (Sound ts vs) list
   sounds = every-map (sound task w past) suit
 
   found : v ≡ verdictFrom ts vs 0 list
   unfolding verdict
-  found = verdict-is task w (m .entry) list (m .marked)
+  found = verdict-is task (m .limit) w (m .entry) list (m .marked)
 
   met-all : v ≡ allMet → Every (MetBy (LevelAt ts vs)) list
   met-all e = met-every ts vs 0 list sounds (sym found ∙ e)

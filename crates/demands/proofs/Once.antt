@@ -1,5 +1,6 @@
--- With one change at 1 question 20 is answered yes and 11 asks for I after words, so each ladder has the same first "no"; and
--- frames, values and traces are those of the old rules.
+-- With one change at 1 question 20 is answered yes and 11 asks for I after words, and with the limit 2,048 question 22 is
+-- answered yes where 13 is; so each ladder has the same first "no". And frames, values and traces are those of the old
+-- rules.
 -- Assumes nothing.
 use Prim.Native.Nat.{ℕ}
 use mathlib.Core.Path.{_≡_, sym, ap, ap₂, fun-ext, _∙_}
@@ -9,21 +10,23 @@ use lib.ListN.{length, getD, length-replicate}
 use Rattle.lists.specs.Ladder.{Question, _orElse_, firstNo, unless}
 use Rattle.lists.specs.Outcome.{outcome, leftBy}
 use Rattle.lists.specs.Areas.{padded}
-use Rattle.lists.proofs.Ladders.{first, firstNo-append}
+use Rattle.lists.proofs.Ladders.{firstNo-behind}
 use Rattle.method.specs.Circuit.{Circuit}
 use Rattle.method.specs.Changes.{changesSuit}
 use Rattle.method.specs.Frames.{Frames, noFrames}
 use Rattle.method.specs.Traces.{Trace, noTrace}
 use Rattle.method.specs.Areas as plan
 use Rattle.method.specs.Layout.{laid}
+use Rattle.method.specs.Limits.{mostTotalFrames}
 use Rattle.method.specs.Sums.{fits, totalsOf}
+use Rattle.limiting.specs.Questions.{lastQuestions}
+use Rattle.limiting.proofs.Last.{full-last}
 use Rattle.method.specs.WordLists.{WordLists, Lengths, lengthsOf}
 use Rattle.method.specs.Once.{framesOnce, wordsSuitOnce, ones, OldRules}
 use Rattle.method.proofs.Once.{old-rules, ones-once, ones-suit}
 use Rattle.circuit.specs.File.{inputsOf, circuitOf}
 use Rattle.circuit.specs.Questions as reader
 use Rattle.circuit.specs.Task.{momentsIn, netsIn, framesIn}
-use Rattle.circuit.proofs.Gated.{questions-numbered}
 use Rattle.circuit.proofs.Parts.{circuit-inputs}
 use Rattle.planner.specs.Questions as planner
 use Rattle.planner.specs.Plan.{planOf}
@@ -38,13 +41,6 @@ use Rattle.marking.specs.Mark.{verdict, markOf}
 use Rattle.demands.specs.Once.{lastOnce, planQuestions, firstOnce, runQuestions, markQuestions, planOnce, filledOnce, runOnce, verdictOnce, markOnce, onceTask, OldCalls}
 
 -- ---- the questions: 20 is answered yes
-
--- behind the reader's
-behind : (file : List ℕ) (qs qs′ : List Question) → firstNo qs ≡ firstNo qs′ → firstNo (reader.questions file ++ qs) ≡ firstNo (reader.questions file ++ qs′)
-behind file qs qs′ e =
-    firstNo-append (reader.questions file) qs (questions-numbered file)
-    ∙ ap (first (firstNo (reader.questions file))) e
-    ∙ sym (firstNo-append (reader.questions file) qs′ (questions-numbered file))
 
 -- a question of 20 that is answered yes changes no first "no"
 passed : {x : Bool} → x ≡ true → (q : Question) (qs : List Question) → firstNo (q ∷ (x orElse 20) ∷ qs) ≡ firstNo (q ∷ qs)
@@ -68,39 +64,45 @@ module _ (file : List ℕ) where
   frames-are : framesIn (onceTask file) ≡ framesOnce c
   frames-are = old .same-frames
 
-  last-is : planner.lastQuestion (onceTask file) ≡ lastOnce file
-  last-is = ap (λ (fs : List Frames). (fits fs orElse 13) ∷ []) frames-are
+  abbrev last : List Question
+  last = lastQuestions mostTotalFrames (framesIn (onceTask file))
+
+  -- with the limit 2,048 question 22 is answered yes where 13 is
+  last-is : firstNo last ≡ firstNo (lastOnce file)
+  last-is = full-last (framesIn (onceTask file)) ∙ ap (λ (fs : List Frames). firstNo ((fits fs orElse 13) ∷ [])) frames-are
 
   words-are : (l : Lengths) → engine.wordsSuit (inputsOf file) (ones (inputsOf file)) l ≡ wordsSuitOnce (inputsOf file) l
   unfolding engine.wordsSuit wordsSuitOnce
   words-are l = rw (length-replicate {A = ℕ} (inputsOf file) 1)
 
-  plan-number : (a : plan.Areas) → firstNo (planner.questions (onceTask file) a) ≡ firstNo (planQuestions file a)
+  plan-number : (a : plan.Areas) → firstNo (planner.questions (onceTask file) mostTotalFrames a) ≡ firstNo (planQuestions file a)
   unfolding planner.questions planQuestions
-  plan-number a = behind file _ _ (passed timed (planner.areasSuit a orElse 10) (planner.lastQuestion (onceTask file)) ∙ ap (λ (qs : List Question). firstNo ((planner.areasSuit a orElse 10) ∷ qs)) last-is)
+  plan-number a = firstNo-behind (reader.questions file) _ _ (passed timed (planner.areasSuit a orElse 10) last ∙ firstNo-behind ((planner.areasSuit a orElse 10) ∷ []) last (lastOnce file) last-is)
 
   -- Run's, with whatever follows
   first-number : (l : Lengths) (a : Areas) (qs : List Question) → firstNo (engine.firstQuestions (onceTask file) l a ++ qs) ≡ firstNo (firstOnce file l a ++ qs)
   unfolding engine.firstQuestions firstOnce
   first-number l a qs =
       ap firstNo (append-assoc (reader.questions file) _ qs)
-      ∙ behind file _ _ (passed-later timed (engine.areasSuit a orElse 10) (engine.wordsSuit (inputsOf file) (ones (inputsOf file)) l orElse 11) qs
+      ∙ firstNo-behind (reader.questions file) _ _ (passed-later timed (engine.areasSuit a orElse 10) (engine.wordsSuit (inputsOf file) (ones (inputsOf file)) l orElse 11) qs
       ∙ ap (λ (b : Bool). firstNo ((engine.areasSuit a orElse 10) ∷ (b orElse 11) ∷ qs)) (words-are l))
       ∙ sym (ap firstNo (append-assoc (reader.questions file) _ qs))
 
-  run-number : (l : Lengths) (a : Areas) → firstNo (engine.questions (onceTask file) l a) ≡ firstNo (runQuestions file l a)
+  run-number : (l : Lengths) (a : Areas) → firstNo (engine.questions (onceTask file) mostTotalFrames l a) ≡ firstNo (runQuestions file l a)
   unfolding engine.questions runQuestions
-  run-number l a = ap (λ (qs : List Question). firstNo (engine.firstQuestions (onceTask file) l a ++ qs)) last-is ∙ first-number l a (lastOnce file)
+  run-number l a = firstNo-behind (engine.firstQuestions (onceTask file) l a) last (lastOnce file) last-is ∙ first-number l a (lastOnce file)
 
-  mark-number : (l : Lengths) (a : Areas) (list : List Expectation) → firstNo (marking.questions (onceTask file) l a list) ≡ firstNo (markQuestions file l a list)
+  mark-number : (l : Lengths) (a : Areas) (list : List Expectation) → firstNo (marking.questions (onceTask file) mostTotalFrames l a list) ≡ firstNo (markQuestions file l a list)
   unfolding marking.askedWith markQuestions
   mark-number l a list =
       let suit : Bool = listSuits (netsIn (onceTask file)) list in
-      ap (λ (qs : List Question). firstNo (engine.firstQuestions (onceTask file) l a ++ ((suit orElse 12) ∷ qs))) last-is ∙ first-number l a ((suit orElse 12) ∷ lastOnce file)
+      firstNo-behind (engine.firstQuestions (onceTask file) l a) ((suit orElse 12) ∷ last) ((suit orElse 12) ∷ lastOnce file)
+      (firstNo-behind ((suit orElse 12) ∷ []) last (lastOnce file) last-is)
+      ∙ first-number l a ((suit orElse 12) ∷ lastOnce file)
 
   -- ---- the calls
 
-  plan-is : (a : plan.Areas) → planOf (onceTask file) a ≡ planOnce file a
+  plan-is : (a : plan.Areas) → planOf (onceTask file) mostTotalFrames a ≡ planOnce file a
   unfolding planOf planOnce
   plan-is a =
       ap₂ (λ (n : ℕ) (fs : List Frames). outcome (unless n (totalsOf fs)) (leftBy n (laid fs a) (plan.allCleared a) a)) (plan-number a) frames-are
@@ -110,7 +112,7 @@ module _ (file : List ℕ) where
   filled-is w a =
       ap₂ (λ (fs : List Frames) (vs : List ℕ). record { plan = laid fs (a .plan); values = padded (length (a .values)) vs }) frames-are (old .same-values w)
 
-  run-is : (w : WordLists) (a : Areas) → runOf (onceTask file) w a ≡ runOnce file w a
+  run-is : (w : WordLists) (a : Areas) → runOf (onceTask file) mostTotalFrames w a ≡ runOnce file w a
   unfolding runOf runOnce
   run-is w a =
       ap₂ (λ (n : ℕ) (fs : List Frames). outcome (unless n (totalsOf fs)) (leftBy n (filled (onceTask file) w a) (allCleared a) a)) (run-number (lengthsOf w) a) frames-are
@@ -122,7 +124,7 @@ module _ (file : List ℕ) where
       ap₂ (λ (fs : List Frames) (ts : ℕ → List Trace). verdictFrom (λ (n : ℕ). getD fs n noFrames .times) (λ (L n : ℕ). getD (ts L) n noTrace .values) 0 list) frames-are
       (fun-ext (λ L. old .same-traces w L))
 
-  mark-is : (w : WordLists) (a : Areas) (list : List Expectation) → markOf (onceTask file) w a list ≡ markOnce file w a list
+  mark-is : (w : WordLists) (a : Areas) (list : List Expectation) → markOf (onceTask file) mostTotalFrames w a list ≡ markOnce file w a list
   unfolding markOf markOnce
   mark-is w a list =
       ap₂ (λ (n : ℕ) (v : Verdict). outcome (unless n v) (leftBy n (filled (onceTask file) w a) (allCleared a) a)) (mark-number (lengthsOf w) a list) (verdict-is w list)

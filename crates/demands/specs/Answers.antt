@@ -23,8 +23,8 @@ pub data Answered {R : Type 0} (qs : List Question) (values : R) : Answer R → 
   all-yes : AllYes qs → Answered qs values (accepted values)
   first-no : (q : Question) → FirstFails qs q → Answered qs values (refused (q .number))
 
--- what stands in the areas behind an answer: an acceptance fills them, a number that clears, which 13 alone does, leaves
--- zeros, and every other number writes nothing
+-- what stands in the areas behind an answer: an acceptance fills them, a number that clears, which 13 and 22 do, leaves zeros,
+-- and every other number writes nothing
 abbrev pub Leaves : {R S : Type 0} → Answer R → S → S → S → S → Type 0
 Leaves (accepted values) filled zeros entry left = left ≡ filled
 Leaves (refused n) filled zeros entry left = left ≡ cond (clears n) zeros entry

@@ -26,7 +26,8 @@ use Rattle.method.specs.declared.Totals.{Totals}
 use Rattle.method.specs.Areas.{Areas as PlanAreas, allCleared as planCleared}
 use Rattle.method.specs.Layout.{laid}
 use Rattle.planner.specs.Questions as planner
-use Rattle.method.specs.Sums.{totalsOf}
+use Rattle.method.specs.Limits.{mostTotalFrames}
+use Rattle.method.specs.Sums.{limited, totalsOf}
 use Rattle.planner.specs.Plan.{planOf}
 use Rattle.engine.specs.Areas.{Areas, allCleared}
 use Rattle.engine.specs.Questions as engine
@@ -50,19 +51,21 @@ use Rattle.demands.specs.Marks.{Met, MetByMachine, Place}
 -- down for it."
 pub record Demand1 : Type 0 where
   pub read : (file : List ℕ) → Answered (circuit.questions file) (circuit.inputsAndGatesOf file) (circuit.readOf file)
-  pub plan : (task : Task) (a : PlanAreas) → Answered (planner.questions task a) (totalsOf (framesIn task)) (planOf task a .answer)
-  pub plan-areas : (task : Task) (a : PlanAreas) → Leaves (planOf task a .answer) (laid (framesIn task) a) (planCleared a) a (planOf task a .left)
-  pub run : (task : Task) (w : WordLists) (a : Areas)
-      → Answered (engine.questions task (lengthsOf w) a) (totalsOf (framesIn task)) (runOf task w a .answer)
-  pub run-areas : (task : Task) (w : WordLists) (a : Areas)
-      → Leaves (runOf task w a .answer) (filled task w a) (allCleared a) a (runOf task w a .left)
-  pub mark : (task : Task) (w : WordLists) (a : Areas) (list : List Expectation)
-      → Answered (marking.questions task (lengthsOf w) a list) (verdict task w list) (markOf task w a list .answer)
-  pub mark-areas : (task : Task) (w : WordLists) (a : Areas) (list : List Expectation)
-      → Leaves (markOf task w a list .answer) (filled task w a) (allCleared a) a (markOf task w a list .left)
+  pub plan : (task : Task) (limit : ℕ) (a : PlanAreas)
+      → Answered (planner.questions task limit a) (totalsOf (framesIn task)) (planOf task limit a .answer)
+  pub plan-areas : (task : Task) (limit : ℕ) (a : PlanAreas)
+      → Leaves (planOf task limit a .answer) (laid (framesIn task) a) (planCleared a) a (planOf task limit a .left)
+  pub run : (task : Task) (limit : ℕ) (w : WordLists) (a : Areas)
+      → Answered (engine.questions task limit (lengthsOf w) a) (totalsOf (framesIn task)) (runOf task limit w a .answer)
+  pub run-areas : (task : Task) (limit : ℕ) (w : WordLists) (a : Areas)
+      → Leaves (runOf task limit w a .answer) (filled task w a) (allCleared a) a (runOf task limit w a .left)
+  pub mark : (task : Task) (limit : ℕ) (w : WordLists) (a : Areas) (list : List Expectation)
+      → Answered (marking.questions task limit (lengthsOf w) a list) (verdict task w list) (markOf task limit w a list .answer)
+  pub mark-areas : (task : Task) (limit : ℕ) (w : WordLists) (a : Areas) (list : List Expectation)
+      → Leaves (markOf task limit w a list .answer) (filled task w a) (allCleared a) a (markOf task limit w a list .left)
   -- where the list passes question 12, Mark leaves the areas as Run does
-  pub mark-as-run : (task : Task) (w : WordLists) (a : Areas) (list : List Expectation) → listSuits (netsIn task) list ≡ true
-      → markOf task w a list .left ≡ runOf task w a .left
+  pub mark-as-run : (task : Task) (limit : ℕ) (w : WordLists) (a : Areas) (list : List Expectation) → listSuits (netsIn task) list ≡ true
+      → markOf task limit w a list .left ≡ runOf task limit w a .left
   pub level : (times values : List ℕ) (L t : ℕ) → Answered (lookQuestions times values L) (sight times (map (lane L) values) t) (levelOf times values L t)
   pub count : (times values : List ℕ) (L : ℕ) → Answered (lookQuestions times values L) (changes (map (lane L) values)) (countOf times values L)
 
@@ -75,15 +78,16 @@ pub record Demand2Method : Type 0 where
   -- of every accepted file's circuit the method's equations hold net by net, and none of them looks up a default
   pub every-net : (file : List ℕ) (s : circuit.InputsAndGates) → circuit.readOf file ≡ accepted s → EveryNet (circuitOf file) × EveryGate (circuitOf file)
   -- Plan and the calls that run accept only accepted files
-  pub plan-read : (task : Task) (entry left : PlanAreas) (totals : Totals)
-      → outcome (accepted totals) left ≡ planOf task entry → circuit.readOf (task .file) ≡ accepted (circuit.inputsAndGatesOf (task .file))
+  pub plan-read : (task : Task) (limit : ℕ) (entry left : PlanAreas) (totals : Totals)
+      → outcome (accepted totals) left ≡ planOf task limit entry → circuit.readOf (task .file) ≡ accepted (circuit.inputsAndGatesOf (task .file))
   pub run-read : (task : Task) (w : WordLists) (left : Areas) → Ran task w left → circuit.readOf (task .file) ≡ accepted (circuit.inputsAndGatesOf (task .file))
   -- with change times that strictly rise, from above 0
-  pub plan-ordered : (task : Task) (entry left : PlanAreas) (totals : Totals) → outcome (accepted totals) left ≡ planOf task entry → Ordered (momentsIn task)
+  pub plan-ordered : (task : Task) (limit : ℕ) (entry left : PlanAreas) (totals : Totals)
+      → outcome (accepted totals) left ≡ planOf task limit entry → Ordered (momentsIn task)
   pub run-ordered : (task : Task) (w : WordLists) (left : Areas) → Ran task w left → Ordered (momentsIn task)
   -- what they leave in the areas, each area at its own length
-  pub plan : (task : Task) (entry left : PlanAreas) (totals : Totals)
-      → outcome (accepted totals) left ≡ planOf task entry → HoldsPlan task left
+  pub plan : (task : Task) (limit : ℕ) (entry left : PlanAreas) (totals : Totals)
+      → outcome (accepted totals) left ≡ planOf task limit entry → HoldsPlan task left
   pub run-plan : (task : Task) (w : WordLists) (left : Areas) → Ran task w left → HoldsPlan task (left .plan)
   pub run-values : (task : Task) (w : WordLists) (left : Areas) → Ran task w left
       → left .values ≡ padded (length (left .values)) (allPackedIn task w)
@@ -95,7 +99,8 @@ pub record Demand2Method : Type 0 where
 
 -- the areas of an accepted Plan, Run or Mark have the lengths that question 10 asks for
 pub record Demand2Lengths : Type 0 where
-  pub plan : (task : Task) (entry left : PlanAreas) (totals : Totals) → outcome (accepted totals) left ≡ planOf task entry → planner.areasSuit left ≡ true
+  pub plan : (task : Task) (limit : ℕ) (entry left : PlanAreas) (totals : Totals)
+      → outcome (accepted totals) left ≡ planOf task limit entry → planner.areasSuit left ≡ true
   pub run : (task : Task) (w : WordLists) (left : Areas) → LeftByRun task w left → engine.areasSuit left ≡ true
   pub mark : (task : Task) (w : WordLists) (list : List Expectation) (v : Verdict) (left : Areas) → Marked task w list v left → engine.areasSuit left ≡ true
 
@@ -103,11 +108,11 @@ pub record Demand2Lengths : Type 0 where
 -- answer of Run; of Mark the same refusal, or two acceptances; and the same plan areas. Values of equal lengths give of Level
 -- and of Count the same refusal, or two acceptances
 pub record Demand2Patterns : Type 0 where
-  pub run : (task : Task) (w w′ : WordLists) (a : Areas) → lengthsOf w ≡ lengthsOf w′
-      → (runOf task w a .answer ≡ runOf task w′ a .answer) × (runOf task w a .left .plan ≡ runOf task w′ a .left .plan)
-  pub mark : (task : Task) (w w′ : WordLists) (a : Areas) (list : List Expectation) → lengthsOf w ≡ lengthsOf w′
-      → SameRefusal (markOf task w a list .answer) (markOf task w′ a list .answer)
-      × (markOf task w a list .left .plan ≡ markOf task w′ a list .left .plan)
+  pub run : (task : Task) (limit : ℕ) (w w′ : WordLists) (a : Areas) → lengthsOf w ≡ lengthsOf w′
+      → (runOf task limit w a .answer ≡ runOf task limit w′ a .answer) × (runOf task limit w a .left .plan ≡ runOf task limit w′ a .left .plan)
+  pub mark : (task : Task) (limit : ℕ) (w w′ : WordLists) (a : Areas) (list : List Expectation) → lengthsOf w ≡ lengthsOf w′
+      → SameRefusal (markOf task limit w a list .answer) (markOf task limit w′ a list .answer)
+      × (markOf task limit w a list .left .plan ≡ markOf task limit w′ a list .left .plan)
   pub level : (times values values′ : List ℕ) (L t : ℕ) → length values ≡ length values′ → SameRefusal (levelOf times values L t) (levelOf times values′ L t)
   pub count : (times values values′ : List ℕ) (L : ℕ) → length values ≡ length values′ → SameRefusal (countOf times values L) (countOf times values′ L)
 
@@ -142,7 +147,8 @@ pub record Demand3Changes : Type 0 where
   pub times : (task : Task) (w : WordLists) (left : Areas) → Ran task w left
       → (n t : ℕ) → n < netsIn task → among t (timesOf left n) ≡ potentialIn task n t
 
--- "Two accepted runs of one circuit whose words agree in a lane, whatever the other 63 lanes of each hold,"
+-- "Two accepted runs of one circuit whose words agree in a lane, whatever the other 63 lanes of each hold," and, since
+-- request P8, whatever the limit of each was
 pub record TwoRuns (L : ℕ) (task : Task) (w : WordLists) (left : Areas) (task′ : Task) (w′ : WordLists) (left′ : Areas) : Type 0 where
   pub lane : L < lanes
   pub ran : Ran task w left
@@ -153,8 +159,8 @@ pub record TwoRuns (L : ℕ) (task : Task) (w : WordLists) (left : Areas) (task�
   pub words-agree : AgreeIn L (circuitIn task .inputs) (length (task .schedule .times)) w w′
 
 -- "are alike in that lane: the same level on every net at every time from 0 to 65,535, the same transition count of every net,
--- and the same marking." A marking is Mark's answer for a list that passes question 12 and whose records all name that lane;
--- Mark is lent areas of the right lengths and whatever content
+-- and the same marking." A marking is Mark's answer for a list that passes question 12 and whose records all name that lane,
+-- under any limit that passes question 22 there; Mark is lent areas of the right lengths and whatever content
 pub record Demand3Alike : Type 0 where
   pub level : (L : ℕ) (task : Task) (w : WordLists) (left : Areas) (task′ : Task) (w′ : WordLists) (left′ : Areas)
       → TwoRuns L task w left task′ w′ left′
@@ -165,8 +171,11 @@ pub record Demand3Alike : Type 0 where
   pub marking : (L : ℕ) (task : Task) (w : WordLists) (left : Areas) (task′ : Task) (w′ : WordLists) (left′ : Areas)
       → TwoRuns L task w left task′ w′ left′
       → (list : List Expectation) → listSuits (netsIn task) list ≡ true → Every (λ (e : Expectation). e .lane ≡ L) list
+      → (limit limit′ : ℕ) → limited limit (framesIn task) ≡ true → limited limit′ (framesIn task′) ≡ true
       → (entry entry′ : Areas) → engine.areasSuit entry ≡ true → engine.areasSuit entry′ ≡ true
-      → SameVerdict (markOf task w entry list .answer) (markOf task′ w′ entry′ list .answer)
+      → SameVerdict (markOf task limit w entry list .answer) (markOf task′ limit′ w′ entry′ list .answer)
+  -- there is such a limit: 2,048
+  pub some-limit : (task : Task) (w : WordLists) (left : Areas) → Ran task w left → limited mostTotalFrames (framesIn task) ≡ true
 
 -- ---- all of them
 

@@ -1,6 +1,7 @@
 -- One change at 1 is the old stimulus: what request P5 leaves as it was. Plan, Run and Mark over the old rules, those of
--- `method/specs/Once`, with their questions as they were; and that with I counts of 1 and I times of 1 the calls answer and leave
--- the same, whatever is refused, and the machine is the old one. `old-calls` in `proofs/Once` proves it.
+-- `method/specs/Once`, with their questions as they were; and that with I counts of 1, I times of 1 and the limit 2,048 the
+-- calls answer and leave the same, whatever is refused, and the machine is the old one. `old-calls` in `proofs/Once` proves
+-- it.
 use Prim.Native.Nat.{ℕ}
 use mathlib.Core.Path.{_≡_}
 use mathlib.Core.List.{List, [], _∷_, _++_}
@@ -11,6 +12,7 @@ use Rattle.lists.specs.Areas.{padded}
 use Rattle.method.specs.declared.Totals.{Totals}
 use Rattle.method.specs.Areas as plan
 use Rattle.method.specs.Layout.{laid}
+use Rattle.method.specs.Limits.{mostTotalFrames}
 use Rattle.method.specs.Sums.{fits, totalsOf}
 use Rattle.method.specs.Values.{netCount}
 use Rattle.method.specs.WordLists.{WordLists, Lengths, lengthsOf}
@@ -85,7 +87,7 @@ abbrev pub onceTask : List ℕ → Task
 onceTask file = record { file = file; schedule = ones (inputsOf file) }
 
 pub record OldCalls : Type 0 where
-  pub plan : (file : List ℕ) (a : plan.Areas) → planOf (onceTask file) a ≡ planOnce file a
-  pub run : (file : List ℕ) (w : WordLists) (a : Areas) → runOf (onceTask file) w a ≡ runOnce file w a
-  pub mark : (file : List ℕ) (w : WordLists) (a : Areas) (list : List Expectation) → markOf (onceTask file) w a list ≡ markOnce file w a list
+  pub plan : (file : List ℕ) (a : plan.Areas) → planOf (onceTask file) mostTotalFrames a ≡ planOnce file a
+  pub run : (file : List ℕ) (w : WordLists) (a : Areas) → runOf (onceTask file) mostTotalFrames w a ≡ runOnce file w a
+  pub mark : (file : List ℕ) (w : WordLists) (a : Areas) (list : List Expectation) → markOf (onceTask file) mostTotalFrames w a list ≡ markOnce file w a list
   pub machine : (file : List ℕ) (w : WordLists) (L n : ℕ) → machineIn (onceTask file) w L n ≡ machineOnce (circuitOf file) (pairOf L w) n

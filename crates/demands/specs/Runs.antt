@@ -1,4 +1,5 @@
 -- Accepted runs, and what they leave.
+use Prim.Native.Nat.{ℕ}
 use mathlib.Core.Path.{_≡_}
 use mathlib.Core.List.{List}
 use Rattle.lists.specs.Ladder.{accepted}
@@ -13,13 +14,15 @@ use Rattle.expectations.specs.declared.Expectation.{Expectation}
 use Rattle.expectations.specs.Verdict.{Verdict}
 use Rattle.marking.specs.Mark.{markOf}
 
--- an accepted Mark with this list: it answers the verdict v, and `left` is what it leaves; its areas held `entry`
+-- an accepted Mark with this list: under some limit it answers the verdict v, and `left` is what it leaves; its areas held
+-- `entry`
 pub record Marked (task : Task) (w : WordLists) (list : List Expectation) (v : Verdict) (left : Areas) : Type 0 where
+  pub limit : ℕ
   pub entry : Areas
-  pub marked : outcome (accepted v) left ≡ markOf task w entry list
+  pub marked : outcome (accepted v) left ≡ markOf task limit w entry list
 
--- `left` is what an accepted run of the task with these words leaves in the areas: an accepted Run, or an accepted Mark with
--- whatever list and verdict
+-- `left` is what an accepted run of the task with these words leaves in the areas, whatever its limit: an accepted Run, or an
+-- accepted Mark with whatever list and verdict
 pub data Ran (task : Task) (w : WordLists) (left : Areas) : Type 0 where
   by-run : engine.LeftByRun task w left → Ran task w left
   by-mark : (list : List Expectation) (v : Verdict) → Marked task w list v left → Ran task w left

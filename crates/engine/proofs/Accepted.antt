@@ -4,7 +4,6 @@
 use Prim.Native.Nat.{ℕ, _≤_}
 use mathlib.Core.Path.{_≡_, refl, sym, ap, ap₂, _∙_}
 use mathlib.Core.Bool.{true}
-use mathlib.Core.List.{[]}
 use native.Mathlib.Omega.{arith}
 use lib.ListN.{length}
 use borrow.Author.Tests.{eq-eqb}
@@ -13,7 +12,7 @@ use Rattle.lists.specs.Outcome.{outcome}
 use Rattle.lists.specs.Areas.{padded}
 use Rattle.lists.proofs.Choices.{and-both}
 use Rattle.lists.proofs.Padding.{pad-length, pad-kept}
-use Rattle.lists.proofs.Ladders.{first-none, asked, unless-none}
+use Rattle.lists.proofs.Ladders.{first-none, unless-none}
 use Rattle.lists.proofs.Leaving.{left-none, accepted-left}
 use Rattle.method.specs.WordLists.{WordLists, Lengths, lengthsOf}
 use Rattle.circuit.specs.File.{inputsOf, gatesOf}
@@ -28,7 +27,8 @@ use Rattle.method.proofs.Changes.{suited}
 use Rattle.circuit.proofs.Parts.{circuit-inputs}
 use Rattle.method.proofs.Fitting.{fits-total}
 use Rattle.method.proofs.Parts.{all-words}
-use Rattle.planner.specs.Questions as planner
+use Rattle.limiting.proofs.Last.{last-none}
+use Rattle.limiting.proofs.Within.{lastNo}
 use Rattle.planner.proofs.Calling.{plan-kept, plan-lengths}
 use Rattle.engine.specs.Areas.{Areas, allCleared}
 use Rattle.engine.specs.Questions.{valuesLength, areasSuit, firstQuestions, questions}
@@ -39,9 +39,9 @@ use Rattle.engine.proofs.Answering.{joined}
 
 -- ---- no question was answered no
 
-module _ (task : Task) (l : Lengths) (a : Areas) (e : firstNo (questions task l a) ≡ 0) where
-  pub parts : (firstNo (firstQuestions task l a) ≡ 0) × (firstNo (planner.lastQuestion task) ≡ 0)
-  parts = first-none (firstNo (firstQuestions task l a)) (firstNo (planner.lastQuestion task)) (sym (joined task l a) ∙ e)
+module _ (task : Task) (limit : ℕ) (l : Lengths) (a : Areas) (e : firstNo (questions task limit l a) ≡ 0) where
+  pub parts : (firstNo (firstQuestions task l a) ≡ 0) × (lastNo task limit ≡ 0)
+  parts = first-none (firstNo (firstQuestions task l a)) (lastNo task limit) (sym (joined task l a limit) ∙ e)
 
   yes-all : Passed task l a
   yes-all = passed task l a (parts .0)
@@ -51,7 +51,7 @@ module _ (task : Task) (l : Lengths) (a : Areas) (e : firstNo (questions task l 
   file-read = unless-none (firstNo (reader.questions (task .file))) (reader.inputsAndGatesOf (task .file)) (yes-all .reads)
 
   plan-fit : fits (framesIn task) ≡ true
-  plan-fit = asked (fits (framesIn task)) 13 [] (λ z. omega arith) (parts .1) .0
+  plan-fit = last-none limit (framesIn task) (parts .1) .0
 
 -- ---- what it leaves
 
@@ -74,21 +74,21 @@ unfolding filled
 filled-values task w a = refl
 
 -- a run whose questions are all answered yes, in areas that held `entry`
-pub ran-filled : (task : Task) (w : WordLists) (entry : Areas) {a : Areas} → firstNo (questions task (lengthsOf w) entry) ≡ 0 → a ≡ filled task w entry → LeftByRun task w a
+pub ran-filled : (task : Task) (limit : ℕ) (w : WordLists) (entry : Areas) {a : Areas} → firstNo (questions task limit (lengthsOf w) entry) ≡ 0 → a ≡ filled task w entry → LeftByRun task w a
 unfolding runOf
-ran-filled task w entry e is =
+ran-filled task limit w entry e is =
     let totals = totalsOf (framesIn task) in
     let none-left = left-none (filled task w entry) (allCleared entry) entry in
-    record { totals = totals; entry = entry; ran = ap (outcome (accepted totals)) is ∙ rw e (sym (ap₂ outcome (unless-none 0 totals refl) none-left)) }
+    record { limit = limit; totals = totals; entry = entry; ran = ap (outcome (accepted totals)) is ∙ rw e (sym (ap₂ outcome (unless-none 0 totals refl) none-left)) }
 
 module _ (task : Task) (w : WordLists) {a : Areas} (r : LeftByRun task w a) where
-  accepts : (firstNo (questions task (lengthsOf w) (r .entry)) ≡ 0) × (totalsOf (framesIn task) ≡ r .totals) × (a ≡ filled task w (r .entry))
+  accepts : (firstNo (questions task (r .limit) (lengthsOf w) (r .entry)) ≡ 0) × (totalsOf (framesIn task) ≡ r .totals) × (a ≡ filled task w (r .entry))
   unfolding runOf
   accepts =
-      accepted-left (firstNo (questions task (lengthsOf w) (r .entry))) (totalsOf (framesIn task)) (filled task w (r .entry))
+      accepted-left (firstNo (questions task (r .limit) (lengthsOf w) (r .entry))) (totalsOf (framesIn task)) (filled task w (r .entry))
       (allCleared (r .entry)) (r .entry) (r .ran)
 
-  pub none : firstNo (questions task (lengthsOf w) (r .entry)) ≡ 0
+  pub none : firstNo (questions task (r .limit) (lengthsOf w) (r .entry)) ≡ 0
   none = accepts .0
 
   pub left-filled : a ≡ filled task w (r .entry)
@@ -97,9 +97,9 @@ module _ (task : Task) (w : WordLists) {a : Areas} (r : LeftByRun task w a) wher
   pub held : Held task w a
   unfolding areasSuit
   held =
-      let read = file-read task (lengthsOf w) (r .entry) none in
-      let fit = plan-fit task (lengthsOf w) (r .entry) none in
-      let yes = yes-all task (lengthsOf w) (r .entry) none in
+      let read = file-read task (r .limit) (lengthsOf w) (r .entry) none in
+      let fit = plan-fit task (r .limit) (lengthsOf w) (r .entry) none in
+      let yes = yes-all task (r .limit) (lengthsOf w) (r .entry) none in
       let plan = ap (λ (x : Areas). x .plan) left-filled ∙ filled-plan task w (r .entry) in
       let values = ap (λ (x : Areas). x .values) left-filled ∙ filled-values task w (r .entry) in
       let room : length (allPackedIn task w) ≤ length (r .entry .values) =

@@ -211,18 +211,18 @@ pub plan-left : (n : ℕ) (task : Task) (w : WordLists) (a : Areas) → runLeft 
 plan-left n task w a = left-part _ _ a (λ (x : Areas). x .plan) n ∙ rw (filled-plan task w a, cleared-plan a)
 
 -- and of the words the questions take the lengths
-words-alike : (task : Task) (w w′ : WordLists) (a : Areas) → lengthsOf w ≡ lengthsOf w′
-    → (runOf task w a .answer ≡ runOf task w′ a .answer) × (runOf task w a .left .plan ≡ runOf task w′ a .left .plan)
+words-alike : (task : Task) (limit : ℕ) (w w′ : WordLists) (a : Areas) → lengthsOf w ≡ lengthsOf w′
+    → (runOf task limit w a .answer ≡ runOf task limit w′ a .answer) × (runOf task limit w a .left .plan ≡ runOf task limit w′ a .left .plan)
 unfolding runOf
-words-alike task w w′ a p =
+words-alike task limit w w′ a p =
     (rw p, plan-left _ task w a ∙ rw p (sym (plan-left _ task w′ a)))
 
 -- what Run shares with Plan
-plan-alike : (task : Task) (w : WordLists) (a : Areas) → length (a .values) ≡ valuesLength → wordsSuit (inputsOf (task .file)) (task .schedule) (lengthsOf w) ≡ true
-    → (runOf task w a .answer ≡ planOf task (a .plan) .answer) × (runOf task w a .left .plan ≡ planOf task (a .plan) .left)
+plan-alike : (task : Task) (limit : ℕ) (w : WordLists) (a : Areas) → length (a .values) ≡ valuesLength → wordsSuit (inputsOf (task .file)) (task .schedule) (lengthsOf w) ≡ true
+    → (runOf task limit w a .answer ≡ planOf task limit (a .plan) .answer) × (runOf task limit w a .left .plan ≡ planOf task limit (a .plan) .left)
 unfolding runOf planOf
-plan-alike task w a v suits =
-    let same = plan-first task (lengthsOf w) a v suits in
+plan-alike task limit w a v suits =
+    let same = plan-first task limit (lengthsOf w) a v suits in
     (rw same, plan-left _ task w a ∙ rw same)
 
 pub after-runs : AfterRun

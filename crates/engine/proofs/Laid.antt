@@ -1,4 +1,5 @@
--- What filling the areas asks and leaves once all questions but 13 are passed: there is room, and the frames fit or do not.
+-- What filling the areas asks and leaves once all questions but 13 and 22 are passed: there is room, and the frames are kept or
+-- not.
 -- Assumes nothing.
 use Prim.Native.Nat.{ℕ}
 use mathlib.Core.Path.{_≡_, _∙_}
@@ -8,12 +9,11 @@ use lib.ListN.{length}
 use Rattle.method.specs.WordLists.{Lengths}
 use Rattle.method.specs.declared.Totals.{Totals}
 use Rattle.circuit.specs.Task.{Task, framesIn}
-use Rattle.layout.specs.declared.Progress.{Progress}
-use Rattle.layout.specs.declared.Progress.the-variants as P
 use Rattle.method.specs.Areas.{areas}
 use Rattle.method.specs.Layout.{allTimes, laid}
 use Rattle.method.specs.Sums.{totalsOf}
-use Rattle.layout.specs.Steps.{Given, Filled}
+use Rattle.layout.specs.Steps.{Given}
+use Rattle.limiting.proofs.Within.{Kept}
 use Rattle.method.proofs.Fitting.{fits-total}
 use Rattle.planner.proofs.Calling.{given-all, plan-room}
 use Rattle.evaluation.specs.Steps.{Planned, Driven}
@@ -25,21 +25,21 @@ module _ (task : Task) {l : Lengths} {a : engine.Areas} (h : Asked task l a) whe
   pub given : Given task (a .plan)
   given = given-all task (a .plan) (h .read) (passed task l a (h .none) .suits) (passed task l a (h .none) .timed)
 
-  module _ {d t i f : List ℕ} {r : Progress} (e : Filled task (a .plan) (areas d t i f) r) {totals : Totals} (q : r ≡ P.Planned totals) where
+  module _ {limit : ℕ} {d t i f : List ℕ} {totals : Totals} (k : Kept task limit (a .plan) (areas d t i f) totals) where
     plan-frames : totals .frames ≡ length (allTimes (framesIn task))
     unfolding totalsOf
-    plan-frames = rw (e .totals totals q)
+    plan-frames = rw (k .totals)
 
     -- what evaluating asks: the areas are as long as they were
     pub planned : length d ≡ length (a .plan .directory) → length t ≡ length (a .plan .times) → length i ≡ length (a .plan .inertial) → length f ≡ length (a .plan .fanins) → Planned task d i f
     unfolding laid
     planned ld lt li lf =
-        let room = plan-room task (a .plan) (h .read) (passed task l a (h .none) .suits) (passed task l a (h .none) .timed) (e .fit totals q) in
+        let room = plan-room task (a .plan) (h .read) (passed task l a (h .none) .suits) (passed task l a (h .none) .timed) (k .fit) in
         record {
           read = h .read;
           suits = passed task l a (h .none) .timed;
           times = t;
-          is = e .filled totals q ∙ rw (ld, lt, li, lf);
+          is = k .filled ∙ rw (ld, lt, li, lf);
           pairs = omega (arith, ld, room .directory);
           indices = omega (arith, li, room .inertial);
           rows = omega (arith, lf, room .fanins);
@@ -52,6 +52,6 @@ module _ (task : Task) {l : Lengths} {a : engine.Areas} (h : Asked task l a) whe
         record {
           before-each = y .before-each;
           after-each = y .after-each;
-          words = record { words = omega (arith, fits-total (framesIn task) (e .fit totals q), y .values) };
+          words = record { words = omega (arith, fits-total (framesIn task) (k .fit), y .values) };
           total-is = plan-frames;
         }

@@ -28,11 +28,13 @@ use Rattle.looks.specs.Sight.{Sight, sightAt}
 use Rattle.looks.specs.Look.{levelOf, levelPart, countOf}
 use Rattle.looks.specs.Holds.{Holds}
 
--- `left` is what an accepted Run of the task with these words leaves: it answered totals, and its areas held something
+-- `left` is what an accepted Run of the task with these words leaves: under some limit it answered totals, and its areas held
+-- something
 pub record LeftByRun (task : Task) (w : WordLists) (left : Areas) : Type 0 where
+  pub limit : ℕ
   pub totals : Totals
   pub entry : Areas
-  pub ran : outcome (accepted totals) left ≡ runOf task w entry
+  pub ran : outcome (accepted totals) left ≡ runOf task limit w entry
 
 -- net n's parts of the times and of the values, by its pair in the directory
 abbrev pub timesOf : Areas → ℕ → List ℕ
@@ -99,8 +101,8 @@ pub record After (task : Task) (w : WordLists) (a : Areas) : Type 0 where
   -- and these entries are the net's potential times
   pub times-are-potential : (n t : ℕ) → n < netsIn task → among t (timesOf a n) ≡ potentialIn task n t
 
--- two accepted Runs of this task's circuit with its change times whose words agree in lane L, whatever the other lanes hold and
--- whatever stood in the areas
+-- two accepted Runs of this task's circuit with its change times whose words agree in lane L, whatever the other lanes hold,
+-- whatever limits they had and whatever stood in the areas
 pub record Alike (task : Task) (L : ℕ) (a a′ : Areas) : Type 0 where
   pub same-sight : (n t : ℕ) → n < netsIn task → sightIn a n L t ≡ sightIn a′ n L t
   pub same-level : (n t : ℕ) → n < netsIn task → levelIn a n L t ≡ levelIn a′ n L t
@@ -113,9 +115,9 @@ pub record AfterRun : Type 0 where
       → AgreeIn L (circuitIn task .inputs) (length (task .schedule .times)) w w′ → Alike task L a a′
   -- no pattern bit enters a number, a plan area or the totals: word lists of equal lengths give the same answer and the
   -- same four plan areas
-  pub words-alike : (task : Task) (w w′ : WordLists) (a : Areas) → lengthsOf w ≡ lengthsOf w′
-      → (runOf task w a .answer ≡ runOf task w′ a .answer) × (runOf task w a .left .plan ≡ runOf task w′ a .left .plan)
+  pub words-alike : (task : Task) (limit : ℕ) (w w′ : WordLists) (a : Areas) → lengthsOf w ≡ lengthsOf w′
+      → (runOf task limit w a .answer ≡ runOf task limit w′ a .answer) × (runOf task limit w a .left .plan ≡ runOf task limit w′ a .left .plan)
   -- Run's totals and plan areas are Plan's: where the values and the word lists have their lengths, Run answers what Plan
-  -- answers of this task and these four areas, and leaves in them what Plan leaves
-  pub plan-alike : (task : Task) (w : WordLists) (a : Areas) → length (a .values) ≡ valuesLength → wordsSuit (inputsOf (task .file)) (task .schedule) (lengthsOf w) ≡ true
-      → (runOf task w a .answer ≡ planOf task (a .plan) .answer) × (runOf task w a .left .plan ≡ planOf task (a .plan) .left)
+  -- answers of this task, this limit and these four areas, and leaves in them what Plan leaves
+  pub plan-alike : (task : Task) (limit : ℕ) (w : WordLists) (a : Areas) → length (a .values) ≡ valuesLength → wordsSuit (inputsOf (task .file)) (task .schedule) (lengthsOf w) ≡ true
+      → (runOf task limit w a .answer ≡ planOf task limit (a .plan) .answer) × (runOf task limit w a .left .plan ≡ planOf task limit (a .plan) .left)

@@ -1,4 +1,5 @@
--- Run's questions in their order: the reader's 1 to 9, then 10, 11, 20 and 13. Of the word lists they take the lengths alone.
+-- Run's questions in their order: the reader's 1 to 9, then 10, 11, 20, 13 and 22. Of the word lists they take the lengths
+-- alone.
 use Prim.Native.Nat.{ℕ}
 use mathlib.Core.Bool.{Bool, _&&_}
 use mathlib.Core.List.{List, [], _∷_, _++_}
@@ -9,7 +10,8 @@ use Rattle.method.specs.Changes.{Schedule, changesSuit}
 use Rattle.method.specs.WordLists.{Lengths}
 use Rattle.circuit.specs.File.{inputsOf}
 use Rattle.circuit.specs.Questions as reader
-use Rattle.circuit.specs.Task.{Task}
+use Rattle.circuit.specs.Task.{Task, framesIn}
+use Rattle.limiting.specs.Questions.{lastQuestions}
 use Rattle.planner.specs.Questions as planner
 use Rattle.engine.specs.Areas.{Areas}
 
@@ -36,6 +38,6 @@ firstQuestions task l a = reader.questions (task .file) ++ ownQuestions (inputsO
 unfoldable pub questionsOf : Task → Lengths → Areas → Answer reader.InputsAndGates
 questionsOf task l a = answer (firstQuestions task l a) (reader.inputsAndGatesOf (task .file))
 
--- and 13: Has every net at most 64 frames, and all nets together at most 2,048?
-unfoldable pub questions : Task → Lengths → Areas → List Question
-questions task l a = firstQuestions task l a ++ planner.lastQuestion task
+-- and 13 and 22
+unfoldable pub questions : Task → ℕ → Lengths → Areas → List Question
+questions task limit l a = firstQuestions task l a ++ lastQuestions limit (framesIn task)

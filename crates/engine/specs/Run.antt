@@ -21,8 +21,8 @@ filled task w a =
 abbrev pub runLeft : ℕ → Task → WordLists → Areas → Areas
 runLeft n task w a = leftBy n (filled task w a) (allCleared a) a
 
--- Run of a task with these words, and of areas with these contents; it answers what Plan does
-unfoldable pub runOf : Task → WordLists → Areas → Outcome Totals Areas
-runOf task w a =
-    let n : ℕ = firstNo (questions task (lengthsOf w) a) in
+-- Run of a task with a limit and these words, and of areas with these contents; it answers what Plan does
+unfoldable pub runOf : Task → ℕ → WordLists → Areas → Outcome Totals Areas
+runOf task limit w a =
+    let n : ℕ = firstNo (questions task limit (lengthsOf w) a) in
     outcome (unless n (totalsOf (framesIn task))) (runLeft n task w a)

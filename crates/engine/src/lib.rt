@@ -4,7 +4,7 @@ ghost use Rattle.lists.specs.Outcome.{outcome};
 ghost use Rattle.method.specs.WordLists.{wordLists, lengthsOf};
 ghost use Rattle.circuit.specs.Task.{taskOf};
 ghost use Rattle.circuit.specs.Questions as reader;
-ghost use Rattle.planner.specs.Plan.{onPaper};
+ghost use Rattle.limiting.specs.Planned.{onPaper};
 ghost use Rattle.engine.specs.Areas.{areas};
 ghost use Rattle.engine.specs.Questions.{questionsOf};
 ghost use Rattle.engine.specs.Run.{runOf};
@@ -18,11 +18,13 @@ use running::own_fault;
 use running::simulate;
 
 // Runs the circuit of the file, whose inputs have these counts of changes and these change times, with a before word for each
-// input and an after word for each change, inputs in order: questions 1 to 11, then 20 and 13. It answers what Plan does.
+// input and an after word for each change, inputs in order, and with no more frames than the caller's limit: questions 1 to 11,
+// then 20, 13 and 22. It answers what Plan does.
 pub fn run(
     file: &[u8],
     counts: &[u8],
     changes: &[Tick],
+    limit: u16,
     directory: &mut [u16],
     times: &mut [Tick],
     inertial: &mut [u16],
@@ -31,7 +33,7 @@ pub fn run(
     before: &[u64],
     after: &[u64],
 ) -> Planning
-    ensures { λ r. ⌜ outcome (onPaper r) (areas (now (directory .exit)) (now (times .exit)) (now (inertial .exit)) (now (fanins .exit)) (now (values .exit))) ≡ runOf (taskOf (now (file .entry)) (now (counts .entry)) (now (changes .entry))) (wordLists (now (before .entry)) (now (after .entry))) (areas (now (directory .entry)) (now (times .entry)) (now (inertial .entry)) (now (fanins .entry)) (now (values .entry))) ⌝ }
+    ensures { λ r. ⌜ outcome (onPaper r) (areas (now (directory .exit)) (now (times .exit)) (now (inertial .exit)) (now (fanins .exit)) (now (values .exit))) ≡ runOf (taskOf (now (file .entry)) (now (counts .entry)) (now (changes .entry))) limit (wordLists (now (before .entry)) (now (after .entry))) (areas (now (directory .entry)) (now (times .entry)) (now (inertial .entry)) (now (fanins .entry)) (now (values .entry))) ⌝ }
 {
     match questions(
         file,
@@ -50,6 +52,7 @@ pub fn run(
             file,
             counts,
             changes,
+            limit,
             inputs,
             gates,
             directory,
@@ -63,7 +66,7 @@ pub fn run(
     }
 }
 
-// What Run asks before 13, for calls that ask more before they run. It answers what the reader does.
+// What Run asks before 13 and 22, for calls that ask more before they run. It answers what the reader does.
 pub fn questions(
     file: &[u8],
     counts: &[u8],

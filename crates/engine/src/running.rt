@@ -6,12 +6,12 @@ ghost use Rattle.method.specs.Changes.{schedule};
 ghost use Rattle.method.specs.WordLists.{wordLists, lengthsOf};
 ghost use Rattle.circuit.specs.File.{inputsOf, gatesOf};
 ghost use Rattle.circuit.specs.Task.{taskOf};
-ghost use Rattle.planner.specs.Plan.{onPaper};
+ghost use Rattle.limiting.specs.Planned.{onPaper};
 ghost use Rattle.engine.specs.Areas.{areas};
 ghost use Rattle.engine.specs.Questions.{ownQuestions};
 ghost use Rattle.engine.specs.Run.{runOf};
 ghost use Rattle.engine.specs.Steps.{Asked};
-use layout::Progress;
+use limiting::fill_within;
 use method::Tick;
 use planner::Planning;
 
@@ -51,11 +51,12 @@ pub(crate) fn own_fault(
 }
 
 // Plans and evaluates a circuit that has passed these questions. What is behind the last frame is 0; so is everything if
-// there are too many frames.
+// there are too many frames, for any caller or for this one.
 pub(crate) fn simulate(
     file: &[u8],
     counts: &[u8],
     changes: &[Tick],
+    limit: u16,
     inputs: u16,
     gates: u16,
     directory: &mut [u16],
@@ -67,12 +68,13 @@ pub(crate) fn simulate(
     after: &[u64],
 ) -> Planning
     requires { ⌜ Asked (taskOf (now file) (now counts) (now changes)) (lengthsOf (wordLists (now before) (now after))) (areas (now directory) (now times) (now inertial) (now fanins) (now values)) × (inputs ≡ inputsOf (now file)) × (gates ≡ gatesOf (now file)) ⌝ }
-    ensures { λ r. ⌜ outcome (onPaper r) (areas (now (directory .exit)) (now (times .exit)) (now (inertial .exit)) (now (fanins .exit)) (now (values .exit))) ≡ runOf (taskOf (now (file .entry)) (now (counts .entry)) (now (changes .entry))) (wordLists (now (before .entry)) (now (after .entry))) (areas (now (directory .entry)) (now (times .entry)) (now (inertial .entry)) (now (fanins .entry)) (now (values .entry))) ⌝ }
+    ensures { λ r. ⌜ outcome (onPaper r) (areas (now (directory .exit)) (now (times .exit)) (now (inertial .exit)) (now (fanins .exit)) (now (values .exit))) ≡ runOf (taskOf (now (file .entry)) (now (counts .entry)) (now (changes .entry))) limit (wordLists (now (before .entry)) (now (after .entry))) (areas (now (directory .entry)) (now (times .entry)) (now (inertial .entry)) (now (fanins .entry)) (now (values .entry))) ⌝ }
 {
-    match layout::fill(
+    match fill_within(
         file,
         counts,
         changes,
+        limit,
         inputs,
         gates,
         directory,
@@ -80,11 +82,11 @@ pub(crate) fn simulate(
         inertial,
         fanins,
     ) {
-        Progress::TooMany => {
+        Planning::Refused(n) => {
             clearing::clear_words(values);
-            Planning::Refused(13)
+            Planning::Refused(n)
         }
-        Progress::Planned(t) => {
+        Planning::Planned(t) => {
             evaluation::evaluate(
                 file,
                 counts,

@@ -1,9 +1,8 @@
--- The areas as a whole: cleared, and filled once all gates were tried.
+-- The areas as a whole, filled once all gates were tried.
 -- Assumes nothing.
 use Prim.Native.Nat.{ℕ}
 use mathlib.Core.Path.{_≡_, sym, _∙_}
 use mathlib.Core.List.{List}
-use Rattle.lists.specs.Areas.{cleared}
 use Rattle.method.specs.Frames.{Frames}
 use Rattle.circuit.specs.File.{gatesOf}
 use Rattle.circuit.specs.Task.{Task, circuitIn, momentsIn, framesIn}
@@ -11,24 +10,17 @@ use Rattle.circuit.proofs.Parts.{gates-length}
 use Rattle.method.specs.declared.Totals.{Totals}
 use Rattle.layout.specs.declared.Progress.{Progress}
 use Rattle.layout.specs.declared.Progress.the-variants as P
-use Rattle.method.specs.Areas.{Areas, areas, allCleared}
+use Rattle.method.specs.Areas.{Areas, allCleared}
 use Rattle.method.specs.Layout.{laid}
 use Rattle.layout.specs.Steps.{framesOf, Reached, Filled}
 use Rattle.method.proofs.Prefix.{frames-all}
 use Rattle.layout.proofs.Stepping.{never, Alike}
 
-pub all-cleared : (d t i f : List ℕ) {d′ t′ i′ f′ : List ℕ} → d′ ≡ cleared d → t′ ≡ cleared t → i′ ≡ cleared i → f′ ≡ cleared f
-    → areas d′ t′ i′ f′ ≡ allCleared (areas d t i f)
-unfolding allCleared
-all-cleared d t i f a b c g = cc
-
--- ---- all gates
-
 laid-alike : (fs : List Frames) {a a′ : Areas} → Alike a a′ → laid fs a′ ≡ laid fs a
 unfolding laid
 laid-alike fs l = rw (l .directory, l .times, l .inertial, l .fanins)
 
-cleared-alike : {a a′ : Areas} → Alike a a′ → allCleared a′ ≡ allCleared a
+pub cleared-alike : {a a′ : Areas} → Alike a a′ → allCleared a′ ≡ allCleared a
 unfolding allCleared
 cleared-alike l = rw (l .directory, l .times, l .inertial, l .fanins)
 

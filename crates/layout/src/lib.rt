@@ -2,7 +2,7 @@
 ghost use mathlib.Core.Path.{_≡_};
 ghost use Rattle.circuit.specs.File.{inputsOf, gatesOf};
 ghost use Rattle.circuit.specs.Task.{taskOf};
-ghost use Rattle.method.specs.Areas.{areas, allCleared};
+ghost use Rattle.method.specs.Areas.{areas};
 ghost use Rattle.layout.specs.Steps.{Given, Filled};
 
 mod gates;
@@ -38,7 +38,7 @@ pub fn fill(
     requires { ⌜ Given (taskOf (now file) (now counts) (now changes)) (areas (now directory) (now times) (now inertial) (now fanins)) × (inputs ≡ inputsOf (now file)) × (gates ≡ gatesOf (now file)) ⌝ }
     ensures { λ r. ⌜ Filled (taskOf (now (file .entry)) (now (counts .entry)) (now (changes .entry))) (areas (now (directory .entry)) (now (times .entry)) (now (inertial .entry)) (now (fanins .entry))) (areas (now (directory .exit)) (now (times .exit)) (now (inertial .exit)) (now (fanins .exit))) r ⌝ }
 {
-    clear_all(directory, times, inertial, fanins);
+    clearing::clear_plan(directory, times, inertial, fanins);
     let start = add_inputs(counts, changes, directory, times);
     let Progress::Planned(totals) = add_gates(
         file,
@@ -52,17 +52,8 @@ pub fn fill(
         fanins,
         start,
     ) else {
-        clear_all(directory, times, inertial, fanins);
+        clearing::clear_plan(directory, times, inertial, fanins);
         return Progress::TooMany;
     };
     Progress::Planned(totals)
-}
-
-fn clear_all(directory: &mut [u16], times: &mut [Tick], inertial: &mut [u16], fanins: &mut [u16])
-    ensures { λ _. ⌜ areas (now (directory .exit)) (now (times .exit)) (now (inertial .exit)) (now (fanins .exit)) ≡ allCleared (areas (now (directory .entry)) (now (times .entry)) (now (inertial .entry)) (now (fanins .entry))) ⌝ }
-{
-    clearing::clear(directory);
-    clearing::clear_ticks(times);
-    clearing::clear(inertial);
-    clearing::clear(fanins);
 }

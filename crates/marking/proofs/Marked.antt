@@ -47,54 +47,54 @@ needs-asked task l a e list =
     list-suits-by (netsIn task) (omega (arith, circuit-inputs (task .file), gates-length (task .file), most)) list
 
 -- and where one of them is not, it does not matter
-same-ladder : (task : Task) (l : Lengths) (a : Areas) (list : List Expectation)
-    → firstNo (askedWith task l a (leb (netsNeeded list) (netsIn task))) ≡ firstNo (questions task l a list)
-same-ladder task l a list = go (firstNo (firstQuestions task l a)) refl
+same-ladder : (task : Task) (limit : ℕ) (l : Lengths) (a : Areas) (list : List Expectation)
+    → firstNo (askedWith task limit l a (leb (netsNeeded list) (netsIn task))) ≡ firstNo (questions task limit l a list)
+same-ladder task limit l a list = go (firstNo (firstQuestions task l a)) refl
   where
-    go : (n : ℕ) → firstNo (firstQuestions task l a) ≡ n → firstNo (askedWith task l a (leb (netsNeeded list) (netsIn task))) ≡ firstNo (questions task l a list)
-    go zero e = ap (λ (b : Bool). firstNo (askedWith task l a b)) (sym (needs-asked task l a e list))
+    go : (n : ℕ) → firstNo (firstQuestions task l a) ≡ n → firstNo (askedWith task limit l a (leb (netsNeeded list) (netsIn task))) ≡ firstNo (questions task limit l a list)
+    go zero e = ap (λ (b : Bool). firstNo (askedWith task limit l a b)) (sym (needs-asked task l a e list))
     go (suc n) e =
         let some : firstNo (firstQuestions task l a) ≡ 0 → ⊥ = λ z. omega (arith, e) in
-        ladder-early task l a (leb (netsNeeded list) (netsIn task)) some ∙ sym (ladder-early task l a (listSuits (netsIn task) list) some)
+        ladder-early task limit l a (leb (netsNeeded list) (netsIn task)) some ∙ sym (ladder-early task limit l a (listSuits (netsIn task) list) some)
 
 -- ---- no question fails
 
-module _ (task : Task) (w : WordLists) (a : Areas) (list : List Expectation) where
-  marks : {n : ℕ} → firstNo (questions task (lengthsOf w) a list) ≡ n
-      → markOf task w a list ≡ outcome (unless n (verdict task w list)) (runLeft n task w a)
+module _ (task : Task) (limit : ℕ) (w : WordLists) (a : Areas) (list : List Expectation) where
+  marks : {n : ℕ} → firstNo (questions task limit (lengthsOf w) a list) ≡ n
+      → markOf task limit w a list ≡ outcome (unless n (verdict task w list)) (runLeft n task w a)
   unfolding markOf
   marks e = rw e
 
-  pub mark-accepts : firstNo (questions task (lengthsOf w) a list) ≡ 0 → markOf task w a list .answer ≡ accepted (verdict task w list)
+  pub mark-accepts : firstNo (questions task limit (lengthsOf w) a list) ≡ 0 → markOf task limit w a list .answer ≡ accepted (verdict task w list)
   unfolding markOf
   mark-accepts e = unless-none _ (verdict task w list) e
 
   -- an accepted Mark: no question fails, and it leaves what Run leaves
-  module _ {v : Verdict} {b : Areas} (e : outcome (accepted v) b ≡ markOf task w a list) where
-    accepts : (firstNo (questions task (lengthsOf w) a list) ≡ 0) × (verdict task w list ≡ v) × (b ≡ filled task w a)
+  module _ {v : Verdict} {b : Areas} (e : outcome (accepted v) b ≡ markOf task limit w a list) where
+    accepts : (firstNo (questions task limit (lengthsOf w) a list) ≡ 0) × (verdict task w list ≡ v) × (b ≡ filled task w a)
     unfolding markOf
     accepts =
-        accepted-left (firstNo (questions task (lengthsOf w) a list)) (verdict task w list) (filled task w a) (allCleared a) a e
+        accepted-left (firstNo (questions task limit (lengthsOf w) a list)) (verdict task w list) (filled task w a) (allCleared a) a e
 
     pub verdict-is : v ≡ verdict task w list
     verdict-is = sym (accepts .1)
 
     pub list-suits : listSuits (netsIn task) list ≡ true
-    list-suits = ladder-yes task (lengthsOf w) a _ (accepts .0) .0
+    list-suits = ladder-yes task limit (lengthsOf w) a _ (accepts .0) .0
 
     pub mark-ran : LeftByRun task w b
-    mark-ran = ran-filled task w a (ladder-yes task (lengthsOf w) a _ (accepts .0) .1) (accepts .2)
+    mark-ran = ran-filled task limit w a (ladder-yes task limit (lengthsOf w) a _ (accepts .0) .1) (accepts .2)
 
 -- ---- what `mark` answers
 
-module _ (task : Task) (w : WordLists) (a : Areas) {b : Areas} (list : List Expectation) {needed r : ℕ}
-    (all : needed ≡ netsNeeded list) (ran : asked r b ≡ askedOf task w a (leb needed (netsIn task))) where
-  number-is : firstNo (questions task (lengthsOf w) a list) ≡ r
+module _ (task : Task) (limit : ℕ) (w : WordLists) (a : Areas) {b : Areas} (list : List Expectation) {needed r : ℕ}
+    (all : needed ≡ netsNeeded list) (ran : asked r b ≡ askedOf task limit w a (leb needed (netsIn task))) where
+  number-is : firstNo (questions task limit (lengthsOf w) a list) ≡ r
   unfolding askedOf
   number-is =
       sym (ap (λ (x : Asked). x .number) ran
-      ∙ ap (λ (m : ℕ). firstNo (askedWith task (lengthsOf w) a (leb m (netsIn task)))) all
-      ∙ same-ladder task (lengthsOf w) a list)
+      ∙ ap (λ (m : ℕ). firstNo (askedWith task limit (lengthsOf w) a (leb m (netsIn task)))) all
+      ∙ same-ladder task limit (lengthsOf w) a list)
 
   left-is : b ≡ runLeft r task w a
   unfolding askedOf
@@ -102,14 +102,14 @@ module _ (task : Task) (w : WordLists) (a : Areas) {b : Areas} (list : List Expe
       ap (λ (x : Asked). x .left) ran
       ∙ ap (λ (m : ℕ). runLeft m task w a) (sym (ap (λ (x : Asked). x .number) ran))
 
-  pub mark-no : (r ≡ 0 → ⊥) → outcome (onPaper (M.Refused r)) b ≡ markOf task w a list
+  pub mark-no : (r ≡ 0 → ⊥) → outcome (onPaper (M.Refused r)) b ≡ markOf task limit w a list
   unfolding onPaper
-  mark-no z = ap₂ outcome (sym (unless-some r (verdict task w list) z)) left-is ∙ sym (marks task w a list number-is)
+  mark-no z = ap₂ outcome (sym (unless-some r (verdict task w list) z)) left-is ∙ sym (marks task limit w a list number-is)
 
-  pub mark-yes : r ≡ 0 → (x : Marking) → onPaper x ≡ accepted (searched (b .plan .directory) (b .plan .times) (b .values) list) → outcome (onPaper x) b ≡ markOf task w a list
+  pub mark-yes : r ≡ 0 → (x : Marking) → onPaper x ≡ accepted (searched (b .plan .directory) (b .plan .times) (b .values) list) → outcome (onPaper x) b ≡ markOf task limit w a list
   mark-yes z x e =
-      let yes = ladder-yes task (lengthsOf w) a _ (number-is ∙ z) in
+      let yes = ladder-yes task limit (lengthsOf w) a _ (number-is ∙ z) in
       let here : b ≡ filled task w a =
       left-is ∙ ap (λ (m : ℕ). runLeft m task w a) z ∙ left-none (filled task w a) (allCleared a) a in
-      let found = searched-is task w (after-runs .after-run task w b (ran-filled task w a (yes .1) here)) list (yes .0) in
-      ap₂ outcome (e ∙ ap accepted found ∙ sym (unless-none r (verdict task w list) z)) left-is ∙ sym (marks task w a list number-is)
+      let found = searched-is task w (after-runs .after-run task w b (ran-filled task limit w a (yes .1) here)) list (yes .0) in
+      ap₂ outcome (e ∙ ap accepted found ∙ sym (unless-none r (verdict task w list) z)) left-is ∙ sym (marks task limit w a list number-is)

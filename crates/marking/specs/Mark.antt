@@ -15,9 +15,9 @@ use Rattle.expectations.specs.Verdict.{Verdict, verdictFrom}
 unfoldable pub verdict : Task → WordLists → List Expectation → Verdict
 verdict task w list = verdictFrom (timesIn task) (laneValues task w) 0 list
 
--- Mark of a task with these words, of areas with these contents, and of a list of expectations; an acceptance fills the areas
--- as Run does, whatever the verdict
-unfoldable pub markOf : Task → WordLists → Areas → List Expectation → Outcome Verdict Areas
-markOf task w a list =
-    let n : ℕ = firstNo (questions task (lengthsOf w) a list) in
+-- Mark of a task with a limit and these words, of areas with these contents, and of a list of expectations; an acceptance fills
+-- the areas as Run does, whatever the verdict
+unfoldable pub markOf : Task → ℕ → WordLists → Areas → List Expectation → Outcome Verdict Areas
+markOf task limit w a list =
+    let n : ℕ = firstNo (questions task limit (lengthsOf w) a list) in
     outcome (unless n (verdict task w list)) (runLeft n task w a)

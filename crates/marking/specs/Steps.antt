@@ -17,7 +17,7 @@ abbrev pub asked : ℕ → Areas → Asked
 asked n a = record { number = n; left = a }
 
 -- where `suit` answers question 12
-unfoldable pub askedOf : Task → WordLists → Areas → Bool → Asked
-askedOf task w a suit =
-    let n : ℕ = firstNo (askedWith task (lengthsOf w) a suit) in
+unfoldable pub askedOf : Task → ℕ → WordLists → Areas → Bool → Asked
+askedOf task limit w a suit =
+    let n : ℕ = firstNo (askedWith task limit (lengthsOf w) a suit) in
     asked n (runLeft n task w a)

@@ -9,12 +9,13 @@ use circuit::Reading;
 use method::Tick;
 use planner::Planning;
 
-// Questions 1 to 11 and 20, then 12, whether there are as many nets as the list needs, then Run with 13: the number of the
-// first "no", or 0. The areas that the search reads afterwards are lent for the call alone, 'w.
+// Questions 1 to 11 and 20, then 12, whether there are as many nets as the list needs, then Run with 13 and 22: the
+// number of the first "no", or 0. The areas that the search reads afterwards are lent for the call alone, 'w.
 pub(crate) fn run_asked<'w, 'a>(
     file: &'a [u8],
     counts: &'a [u8],
     changes: &'a [Tick],
+    limit: u16,
     directory: &'w mut [u16],
     times: &'w mut [Tick],
     inertial: &'a mut [u16],
@@ -24,7 +25,7 @@ pub(crate) fn run_asked<'w, 'a>(
     after: &'a [u64],
     needed: u32,
 ) -> u8
-    ensures { λ r. ⌜ asked r (areas (now (directory .exit)) (now (times .exit)) (now (inertial .exit)) (now (fanins .exit)) (now (values .exit))) ≡ askedOf (taskOf (now (file .entry)) (now (counts .entry)) (now (changes .entry))) (wordLists (now (before .entry)) (now (after .entry))) (areas (now (directory .entry)) (now (times .entry)) (now (inertial .entry)) (now (fanins .entry)) (now (values .entry))) (leb needed (netsIn (taskOf (now (file .entry)) (now (counts .entry)) (now (changes .entry))))) ⌝ }
+    ensures { λ r. ⌜ asked r (areas (now (directory .exit)) (now (times .exit)) (now (inertial .exit)) (now (fanins .exit)) (now (values .exit))) ≡ askedOf (taskOf (now (file .entry)) (now (counts .entry)) (now (changes .entry))) limit (wordLists (now (before .entry)) (now (after .entry))) (areas (now (directory .entry)) (now (times .entry)) (now (inertial .entry)) (now (fanins .entry)) (now (values .entry))) (leb needed (netsIn (taskOf (now (file .entry)) (now (counts .entry)) (now (changes .entry))))) ⌝ }
 {
     let nets = match engine::questions(
         file,
@@ -50,6 +51,7 @@ pub(crate) fn run_asked<'w, 'a>(
         file,
         counts,
         changes,
+        limit,
         directory,
         times,
         inertial,

@@ -16,12 +16,13 @@ use expectations::needs::nets_needed;
 use expectations::search::first_unmet;
 use method::Tick;
 
-// Runs the circuit of the file as Run does, and marks the run: questions 1 to 11, then 20, 12 and 13. The areas are left as Run
-// leaves them, whatever the verdict. Proved by hand, as the list is lent.
+// Runs the circuit of the file as Run does, and marks the run: questions 1 to 11, then 20, 12, 13 and 22. The areas are
+// left as Run leaves them, whatever the verdict. Proved by hand, as the list is lent.
 pub fn mark<'a>(
     file: &'a [u8],
     counts: &'a [u8],
     changes: &'a [Tick],
+    limit: u16,
     directory: &'a mut [u16],
     times: &'a mut [Tick],
     inertial: &'a mut [u16],
@@ -31,7 +32,7 @@ pub fn mark<'a>(
     after: &'a [u64],
     expectations: &'a [Expectation],
 ) -> Marking
-    ensures { λ r. ⌜ outcome (onPaper r) (areas (now (directory .exit)) (now (times .exit)) (now (inertial .exit)) (now (fanins .exit)) (now (values .exit))) ≡ markOf (taskOf (now (file .entry)) (now (counts .entry)) (now (changes .entry))) (wordLists (now (before .entry)) (now (after .entry))) (areas (now (directory .entry)) (now (times .entry)) (now (inertial .entry)) (now (fanins .entry)) (now (values .entry))) (now (expectations .entry)) ⌝ }
+    ensures { λ r. ⌜ outcome (onPaper r) (areas (now (directory .exit)) (now (times .exit)) (now (inertial .exit)) (now (fanins .exit)) (now (values .exit))) ≡ markOf (taskOf (now (file .entry)) (now (counts .entry)) (now (changes .entry))) limit (wordLists (now (before .entry)) (now (after .entry))) (areas (now (directory .entry)) (now (times .entry)) (now (inertial .entry)) (now (fanins .entry)) (now (values .entry))) (now (expectations .entry)) ⌝ }
 {
     // the list is walked first: so the areas are lent to be written once, for all questions and the run
     let needed = nets_needed(expectations);
@@ -39,6 +40,7 @@ pub fn mark<'a>(
         file,
         counts,
         changes,
+        limit,
         directory,
         times,
         inertial,

@@ -1,23 +1,13 @@
 -- What Plan answers, and what it leaves in the areas.
 use Prim.Native.Nat.{ℕ}
-use Rattle.lists.specs.Ladder.{firstNo, Answer, accepted, refused, unless}
-use Rattle.lists.specs.Outcome.{Outcome, outcome, leftBy}
+use Rattle.lists.specs.Ladder.{firstNo}
+use Rattle.lists.specs.Outcome.{Outcome}
 use Rattle.method.specs.declared.Totals.{Totals}
-use Rattle.method.specs.Sums.{totalsOf}
+use Rattle.method.specs.Areas.{Areas}
 use Rattle.circuit.specs.Task.{Task, framesIn}
-use Rattle.planner.specs.declared.Planning.{Planning}
-use Rattle.planner.specs.declared.Planning.the-variants.{Planned, Refused}
-use Rattle.method.specs.Areas.{Areas, allCleared}
-use Rattle.method.specs.Layout.{laid}
+use Rattle.limiting.specs.Planned.{plannedBy}
 use Rattle.planner.specs.Questions.{questions}
 
--- Plan of a task and of areas with these contents; no word enters it
-unfoldable pub planOf : Task → Areas → Outcome Totals Areas
-planOf task a =
-    let n : ℕ = firstNo (questions task a) in
-    outcome (unless n (totalsOf (framesIn task))) (leftBy n (laid (framesIn task) a) (allCleared a) a)
-
--- a `Planning` in the paper's terms: the totals, or the number alone
-unfoldable pub onPaper : Planning → Answer Totals
-onPaper (Planned t) = accepted t
-onPaper (Refused n) = refused n
+-- Plan of a task with a limit, and of areas with these contents; no word enters it
+unfoldable pub planOf : Task → ℕ → Areas → Outcome Totals Areas
+planOf task limit a = plannedBy (firstNo (questions task limit a)) (framesIn task) a

@@ -1,6 +1,7 @@
--- Plan's questions in their order: the reader's 1 to 9, then 10, 20 and 13.
+-- Plan's questions in their order: the reader's 1 to 9, then 10, 20, 13 and 22.
+use Prim.Native.Nat.{ℕ}
 use mathlib.Core.Bool.{Bool, _&&_}
-use mathlib.Core.List.{List, [], _∷_, _++_}
+use mathlib.Core.List.{List, _∷_, _++_}
 use lib.ListN.{length}
 use lib.Dec.{eqb}
 use Rattle.lists.specs.Ladder.{Question, _orElse_}
@@ -8,7 +9,7 @@ use Rattle.circuit.specs.File.{inputsOf}
 use Rattle.circuit.specs.Questions as reader
 use Rattle.circuit.specs.Task.{Task, framesIn}
 use Rattle.method.specs.Changes.{changesSuit}
-use Rattle.method.specs.Sums.{fits}
+use Rattle.limiting.specs.Questions.{lastQuestions}
 use Rattle.planner.specs.Limits.{directoryLength, timesLength, faninsLength}
 use Rattle.method.specs.Areas.{Areas}
 
@@ -19,13 +20,10 @@ areasSuit a =
     && (eqb (length (a .times)) timesLength
     && (eqb (length (a .inertial)) timesLength && eqb (length (a .fanins)) faninsLength))
 
--- the last question of every call that plans
-abbrev pub lastQuestion : Task → List Question
-lastQuestion task = (fits (framesIn task) orElse 13) ∷ []
-
 -- Plan's own questions
-abbrev pub ownQuestions : Task → Areas → List Question
-ownQuestions task a = (areasSuit a orElse 10) ∷ (changesSuit (inputsOf (task .file)) (task .schedule) orElse 20) ∷ lastQuestion task
+abbrev pub ownQuestions : Task → ℕ → Areas → List Question
+ownQuestions task limit a =
+    (areasSuit a orElse 10) ∷ (changesSuit (inputsOf (task .file)) (task .schedule) orElse 20) ∷ lastQuestions limit (framesIn task)
 
-unfoldable pub questions : Task → Areas → List Question
-questions task a = reader.questions (task .file) ++ ownQuestions task a
+unfoldable pub questions : Task → ℕ → Areas → List Question
+questions task limit a = reader.questions (task .file) ++ ownQuestions task limit a

@@ -4,11 +4,12 @@ ghost use Rattle.lists.specs.Outcome.{outcome};
 ghost use Rattle.method.specs.Areas.{areas};
 ghost use Rattle.circuit.specs.Task.{taskOf};
 ghost use Rattle.planner.specs.Questions.{areasSuit};
-ghost use Rattle.planner.specs.Plan.{onPaper, planOf};
+ghost use Rattle.limiting.specs.Planned.{onPaper};
+ghost use Rattle.planner.specs.Plan.{planOf};
 use circuit::Reading;
-use layout::Progress;
+pub use limiting::Planning;
+use limiting::fill_within;
 use method::Tick;
-use method::Totals;
 
 const DIRECTORY_LENGTH: usize = 320;
 
@@ -17,24 +18,19 @@ const TIMES_LENGTH: usize = 2048;
 
 const FANINS_LENGTH: usize = 16384;
 
-// What planning answers: the totals, or the number of the first "no".
-pub enum Planning {
-    Planned(Totals),
-    Refused(u8),
-}
-
-// Plans the circuit of the file, whose inputs have these counts of changes and these change times, inputs in order: questions 1
-// to 10, then 20 and 13.
+// Plans the circuit of the file, whose inputs have these counts of changes and these change times, inputs in order, with no
+// more frames than the caller's limit: questions 1 to 10, then 20, 13 and 22.
 pub fn plan(
     file: &[u8],
     counts: &[u8],
     changes: &[Tick],
+    limit: u16,
     directory: &mut [u16],
     times: &mut [Tick],
     inertial: &mut [u16],
     fanins: &mut [u16],
 ) -> Planning
-    ensures { λ r. ⌜ outcome (onPaper r) (areas (now (directory .exit)) (now (times .exit)) (now (inertial .exit)) (now (fanins .exit))) ≡ planOf (taskOf (now (file .entry)) (now (counts .entry)) (now (changes .entry))) (areas (now (directory .entry)) (now (times .entry)) (now (inertial .entry)) (now (fanins .entry))) ⌝ }
+    ensures { λ r. ⌜ outcome (onPaper r) (areas (now (directory .exit)) (now (times .exit)) (now (inertial .exit)) (now (fanins .exit))) ≡ planOf (taskOf (now (file .entry)) (now (counts .entry)) (now (changes .entry))) limit (areas (now (directory .entry)) (now (times .entry)) (now (inertial .entry)) (now (fanins .entry))) ⌝ }
 {
     match circuit::read(file) {
         Reading::Refused(n) => Planning::Refused(n),
@@ -45,20 +41,18 @@ pub fn plan(
             if !stimulus::changes_suit(inputs, counts, changes) {
                 return Planning::Refused(20);
             }
-            match layout::fill(
+            fill_within(
                 file,
                 counts,
                 changes,
+                limit,
                 inputs,
                 gates,
                 directory,
                 times,
                 inertial,
                 fanins,
-            ) {
-                Progress::TooMany => Planning::Refused(13),
-                Progress::Planned(t) => Planning::Planned(t),
-            }
+            )
         }
     }
 }

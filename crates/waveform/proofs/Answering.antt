@@ -27,16 +27,18 @@ use Rattle.circuit.specs.Limits.{mostInputs, mostGates}
 use Rattle.circuit.specs.declared.Reading.{Reading}
 use Rattle.circuit.specs.declared.Reading.the-variants as R
 use Rattle.circuit.specs.Questions as reader
-use Rattle.circuit.specs.Task.{Task, momentsIn, netsIn}
+use Rattle.circuit.specs.Task.{Task, momentsIn, netsIn, framesIn}
 use Rattle.circuit.proofs.Gated.{questions-numbered}
 use Rattle.circuit.proofs.Accepted.{Head, passed}
 use Rattle.circuit.proofs.Parts.{circuit-inputs, gates-length, reading-accepted, inputs-are, gates-are, few}
-use Rattle.planner.specs.declared.Planning.{Planning}
-use Rattle.planner.specs.declared.Planning.the-variants as Q
+use Rattle.limiting.specs.declared.Planning.{Planning}
+use Rattle.limiting.specs.declared.Planning.the-variants as Q
 use Rattle.method.specs.declared.Totals.{Totals}
-use Rattle.planner.specs.Plan.{onPaper}
+use Rattle.limiting.specs.Planned.{onPaper}
+use Rattle.method.specs.Limits.{mostTotalFrames}
 use Rattle.method.specs.Sums.{fits}
-use Rattle.planner.specs.Questions.{lastQuestion}
+use Rattle.limiting.specs.Questions.{lastQuestions}
+use Rattle.limiting.proofs.Last.{full-last}
 use Rattle.planner.specs.Questions as planner
 use Rattle.method.proofs.Fitting.{fits-total}
 use Rattle.engine.specs.Areas.{Areas, areas}
@@ -85,7 +87,7 @@ module _ (file : List ℕ) {r : Reading} (e : reader.onPaper r ≡ reader.readOf
 
 module _ (task : Task) (w : WordLists) (a : Areas) where
   abbrev number : ℕ
-  number = firstNo (engine.questions task (lengthsOf w) a)
+  number = firstNo (engine.questions task mostTotalFrames (lengthsOf w) a)
 
   text-yes : number ≡ 0 → runText task w a ≡ taskLines task w
   unfolding runText
@@ -95,18 +97,18 @@ module _ (task : Task) (w : WordLists) (a : Areas) where
   unfolding runText
   text-no e = rw (ne-eqb number 0 e) refl
 
-  module _ {r : Planning} {b : Areas} (e : outcome (onPaper r) b ≡ runOf task w a) where
+  module _ {r : Planning} {b : Areas} (e : outcome (onPaper r) b ≡ runOf task mostTotalFrames w a) where
     -- a "no"
     pub run-refused : {n : ℕ} → r ≡ Q.Refused n → refusal n ≡ runText task w a
     unfolding onPaper
     run-refused {n} q =
-        let s = refused-some number _ (sym (run-is task w a e .0) ∙ ap onPaper q) in
+        let s = refused-some number _ (sym (run-is task mostTotalFrames w a e .0) ∙ ap onPaper q) in
         sym (text-no (λ z. omega (arith, s .0, s .1, z)) ∙ ap refusal (s .0))
 
     module _ {totals : Totals} (q : r ≡ Q.Planned totals) where
       ran : LeftByRun task w b
       unfolding onPaper
-      ran = record { totals = totals; entry = a; ran = ap (λ (x : Planning). outcome (onPaper x) b) (sym q) ∙ e }
+      ran = record { limit = mostTotalFrames; totals = totals; entry = a; ran = ap (λ (x : Planning). outcome (onPaper x) b) (sym q) ∙ e }
 
       -- all lines
       pub run-lines : {nets : ℕ} → nets ≡ netsRead (reader.readOf (task .file)) → areaLines (b .plan .directory) (b .plan .times) (b .values) nets ≡ runText task w a
@@ -175,21 +177,22 @@ module _ (file part : List ℕ) where
   -- Run's ladder comes to the same
   module _ (a : Areas) (suit : engine.areasSuit a ≡ true) where
     abbrev behind : List Question
-    behind = (changesSuit (inputsOf file) (ones each) orElse 20) ∷ lastQuestion task
+    behind = (changesSuit (inputsOf file) (ones each) orElse 20) ∷ lastQuestions mostTotalFrames (framesIn task)
 
     abbrev own : List Question
     own = (engine.areasSuit a orElse 10) ∷ (engine.wordsSuit (inputsOf file) (ones each) eachOf orElse 11) ∷ behind
 
-    run-joined : firstNo (engine.questions task eachOf a) ≡ first (firstNo (reader.questions file)) (firstNo own)
+    run-joined : firstNo (engine.questions task mostTotalFrames eachOf a) ≡ first (firstNo (reader.questions file)) (firstNo own)
     unfolding engine.questions engine.firstQuestions
     run-joined =
-        ap firstNo (append-assoc (reader.questions file) (engine.ownQuestions (inputsOf file) (ones each) eachOf a) (lastQuestion task))
+        ap firstNo (append-assoc (reader.questions file) (engine.ownQuestions (inputsOf file) (ones each) eachOf a) (lastQuestions mostTotalFrames (framesIn task)))
         ∙ firstNo-append (reader.questions file) own (questions-numbered file)
 
     same-behind : firstNo (reader.questions file) ≡ 0 → firstNo ((eqb n (16 * inputsOf file) orElse 11) ∷ behind) ≡ firstNo rest
     same-behind e =
         elim (either (eqb n (16 * inputsOf file))) [
           | inl y ↦ ask-yes (eqb n (16 * inputsOf file)) 11 _ y ∙ ask-yes (changesSuit (inputsOf file) (ones each)) 20 _ (timed e y)
+              ∙ full-last (framesIn task)
               ∙ ap (λ (fs : List Frames). firstNo ((fits fs orElse 13) ∷ [])) (old e y .same-frames) ∙ sym (ask-yes (eqb n (16 * inputsOf file)) 11 _ y)
           | inr z ↦ ask-no (eqb n (16 * inputsOf file)) 11 _ z ∙ sym (ask-no (eqb n (16 * inputsOf file)) 11 _ z)
         ]
@@ -202,7 +205,7 @@ module _ (file part : List ℕ) where
         ∙ same-behind e
     same-rest (suc m) e = refl
 
-    same-number : firstNo (engine.questions task eachOf a) ≡ firstNo (questions file part)
+    same-number : firstNo (engine.questions task mostTotalFrames eachOf a) ≡ firstNo (questions file part)
     same-number = run-joined ∙ same-rest (firstNo (reader.questions file)) refl ∙ sym joined
 
   -- no "no": the parts of that
@@ -249,9 +252,9 @@ module _ (file part : List ℕ) where
 
   -- Run's answer to the lists is the answer
   module _ (a : Areas) (suit : engine.areasSuit a ≡ true) {w : WordLists} (b : w .before ≡ wordsFrom part 0 each) (f : w .after ≡ wordsFrom part each each) where
-    number-is : firstNo (engine.questions task (lengthsOf w) a) ≡ firstNo (questions file part)
+    number-is : firstNo (engine.questions task mostTotalFrames (lengthsOf w) a) ≡ firstNo (questions file part)
     number-is =
-        ap₂ (λ (k l : ℕ). firstNo (engine.questions task (record { before = k; after = l }) a)) (ap length b ∙ words-length part 0 each) (ap length f ∙ words-length part each each)
+        ap₂ (λ (k l : ℕ). firstNo (engine.questions task mostTotalFrames (record { before = k; after = l }) a)) (ap length b ∙ words-length part 0 each) (ap length f ∙ words-length part each each)
         ∙ same-number a suit
 
     yes : firstNo (questions file part) ≡ 0 → runText task w a ≡ answerText file part

@@ -11,6 +11,7 @@ use Rattle.circuit.specs.Questions.{InputsAndGates}
 use Rattle.circuit.specs.Task.{Task, netsIn, timesIn, laneValues}
 use Rattle.method.specs.Layout.{frameCount, partOf}
 use Rattle.looks.specs.Sight.{Sight, sightAt}
+use Rattle.method.specs.Limits.{mostTotalFrames}
 use Rattle.engine.specs.Areas.{Areas}
 use Rattle.engine.specs.Questions as engine
 use Rattle.text.specs.Text.{newline, decimal, refusal, frameText}
@@ -49,8 +50,8 @@ abbrev pub netsRead : Answer InputsAndGates → ℕ
 netsRead (accepted s) = s .inputs + s .gates
 netsRead (refused n) = 0
 
--- the number of the first "no" of Run, or the lines
+-- the number of the first "no" of Run with the greatest limit, or the lines
 unfoldable pub runText : Task → WordLists → Areas → List ℕ
 runText task w a =
-    let n : ℕ = firstNo (engine.questions task (lengthsOf w) a) in
+    let n : ℕ = firstNo (engine.questions task mostTotalFrames (lengthsOf w) a) in
     cond (eqb n 0) (taskLines task w) (refusal n)

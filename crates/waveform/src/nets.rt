@@ -22,6 +22,9 @@ use text::put_newline;
 use text::put_number;
 use text::put_refused;
 
+// The wave program's limit on frames is the greatest that there is.
+const FRAME_LIMIT: u16 = 2048;
+
 // So many frames of a net, in lane 0, from its parts of the times and the values.
 fn put_frames(output: &mut [u8], at: usize, times: &[Tick], values: &[u64], frames: u16) -> usize
     ensures { λ r. ⌜ Wrote (now (output .entry)) at (partFrames (now (times .entry)) (now (values .entry)) frames) (now (output .exit)) r ⌝ }
@@ -94,6 +97,7 @@ fn put_run(
         file,
         counts,
         changes,
+        FRAME_LIMIT,
         directory,
         times,
         inertial,

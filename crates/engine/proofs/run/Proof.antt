@@ -1,4 +1,4 @@
--- `run` meets its contract: a "no" up to 11 writes nothing, and `simulate` does the rest.
+-- `run` meets its contract: a "no" before 13 and 22 writes nothing, and `simulate` does the rest.
 -- Assumes nothing.
 use Rattle.engine.proofs.Asking.{asked-no, asked-yes}
 use Rattle.engine.proofs.Answering.{run-no}
@@ -34,7 +34,7 @@ same-length-5 : tie.Need-same-length-5
 same-length-5 c = search needs
 
 returns : tie.Need-returns
-returns c = let q = asked-no _ _ _ (c .before .before .before .questions .ensures) (c .before .n .given .1) in run-no _ _ _ (q .0) (q .1)
+returns c = let q = asked-no _ _ _ (c .before .before .before .questions .ensures) (c .before .n .given .1) in run-no _ _ _ _ (q .0) (q .1)
 
 same-length-6 : tie.Need-same-length-6
 same-length-6 c = search needs

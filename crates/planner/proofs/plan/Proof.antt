@@ -1,6 +1,7 @@
 -- `plan` meets its contract: the questions in their order; the areas are filled only after 10 and 20.
 -- Assumes nothing.
-use Rattle.planner.proofs.Calling.{plan-read, plan-10, plan-20, fill-given, plan-13, plan-yes}
+use mathlib.Core.Path.{_∙_}
+use Rattle.planner.proofs.Calling.{plan-read, plan-10, plan-20, fill-given, plan-last}
 use borrow.Author.Needs.{needs}
 use Rattle.planner.proofs.plan.Statement.{statement}
 use Rattle.planner.proofs.plan.Tie as tie
@@ -30,7 +31,7 @@ same-length-4 : tie.Need-same-length-4
 same-length-4 c = search needs
 
 returns : tie.Need-returns
-returns c = plan-10 _ _ (c .before .before .before .before .before .before .before .before .before .read .ensures) (c .before .before .before .before .before .before .before .inputs .given .1) (c .before .areas-suit .ensures) (c .if1 .taken)
+returns c = plan-10 _ _ _ (c .before .before .before .before .before .before .before .before .before .read .ensures) (c .before .before .before .before .before .before .before .inputs .given .1) (c .before .areas-suit .ensures) (c .if1 .taken)
 
 changes-suit-requires : tie.Need-changes-suit-requires
 changes-suit-requires c κs = search needs
@@ -48,19 +49,13 @@ same-length-8 : tie.Need-same-length-8
 same-length-8 c = search needs
 
 returns-2 : tie.Need-returns-2
-returns-2 c = plan-20 _ _ (c .before .before .before .before .before .before .before .before .before .before .before .read .ensures) (c .before .before .before .before .before .before .before .before .before .inputs .given .1) (c .before .before .before .areas-suit .ensures) (c .before .before .if1 .left) (c .before .changes-suit .ensures) (c .if2 .taken)
+returns-2 c = plan-20 _ _ _ (c .before .before .before .before .before .before .before .before .before .before .before .read .ensures) (c .before .before .before .before .before .before .before .before .before .inputs .given .1) (c .before .before .before .areas-suit .ensures) (c .before .before .if1 .left) (c .before .changes-suit .ensures) (c .if2 .taken)
 
-fill-requires : tie.Need-fill-requires
-fill-requires c κs = fill-given _ _ (c .before .before .before .before .before .before .before .before .before .before .before .before .before .before .before .read .ensures) (c .before .before .before .before .before .before .before .before .before .before .before .before .before .inputs .given .1) (c .before .before .before .before .before .before .before .areas-suit .ensures) (c .before .before .before .before .before .before .if1 .left) (c .before .before .before .before .before .changes-suit .ensures) (c .before .before .before .before .if2 .left)
-
-enum-told : tie.Need-enum-told
-enum-told c = search needs
-
-enum-known-t : tie.Need-enum-known-t
-enum-known-t c = search needs
+fill-within-requires : tie.Need-fill-within-requires
+fill-within-requires c κs = fill-given _ (c .before .before .before .before .before .before .before .before .before .before .before .before .before .before .before .before .before .before .before .before .before .before .before .args .limit) _ (c .before .before .before .before .before .before .before .before .before .before .before .before .before .before .before .read .ensures) (c .before .before .before .before .before .before .before .before .before .before .before .before .before .inputs .given .1) (c .before .before .before .before .before .before .before .areas-suit .ensures) (c .before .before .before .before .before .before .if1 .left) (c .before .before .before .before .before .changes-suit .ensures) (c .before .before .before .before .if2 .left)
 
 returns-3 : tie.Need-returns-3
-returns-3 c = plan-read _ _ (c .before .before .before .read .ensures) (c .before .n .given .1)
+returns-3 c = plan-read _ _ _ (c .before .before .before .read .ensures) (c .before .n .given .1)
 
 same-length-9 : tie.Need-same-length-9
 same-length-9 c = search needs
@@ -75,22 +70,7 @@ same-length-12 : tie.Need-same-length-12
 same-length-12 c = search needs
 
 returns-4 : tie.Need-returns-4
-returns-4 c = plan-13 _ _ (c .before .before .before .before .before .before .before .before .before .before .before .before .before .before .before .before .before .before .before .before .before .before .before .before .before .before .read .ensures) (c .before .before .before .before .before .before .before .before .before .before .before .before .before .before .before .before .before .before .before .before .before .before .before .before .inputs .given .1) (c .before .before .before .before .before .before .before .before .before .before .before .before .before .before .before .before .before .before .areas-suit .ensures) (c .before .before .before .before .before .before .before .before .before .before .before .before .before .before .before .before .before .if1 .left) (c .before .before .before .before .before .before .before .before .before .before .before .before .before .before .before .before .changes-suit .ensures) (c .before .before .before .before .before .before .before .before .before .before .before .before .before .before .before .if2 .left) (c .before .before .before .before .before .before .before .before .before .before .fill .ensures) (c .enum-told .given .1)
-
-same-length-13 : tie.Need-same-length-13
-same-length-13 c = search needs
-
-same-length-14 : tie.Need-same-length-14
-same-length-14 c = search needs
-
-same-length-15 : tie.Need-same-length-15
-same-length-15 c = search needs
-
-same-length-16 : tie.Need-same-length-16
-same-length-16 c = search needs
-
-returns-5 : tie.Need-returns-5
-returns-5 c = plan-yes _ _ (c .before .before .before .before .before .before .before .before .before .before .before .before .before .before .before .before .before .before .before .before .before .before .before .before .before .before .before .read .ensures) (c .before .before .before .before .before .before .before .before .before .before .before .before .before .before .before .before .before .before .before .before .before .before .before .before .before .inputs .given .1) (c .before .before .before .before .before .before .before .before .before .before .before .before .before .before .before .before .before .before .before .areas-suit .ensures) (c .before .before .before .before .before .before .before .before .before .before .before .before .before .before .before .before .before .before .if1 .left) (c .before .before .before .before .before .before .before .before .before .before .before .before .before .before .before .before .before .changes-suit .ensures) (c .before .before .before .before .before .before .before .before .before .before .before .before .before .before .before .before .if2 .left) (c .before .before .before .before .before .before .before .before .before .before .before .fill .ensures) (c .before .t .given .1)
+returns-4 c = c .before .before .before .before .before .before .before .before .fill-within .ensures ∙ plan-last _ _ _ (c .before .before .before .before .before .before .before .before .before .before .before .before .before .before .before .before .before .before .before .before .before .before .before .before .read .ensures) (c .before .before .before .before .before .before .before .before .before .before .before .before .before .before .before .before .before .before .before .before .before .before .inputs .given .1) (c .before .before .before .before .before .before .before .before .before .before .before .before .before .before .before .before .areas-suit .ensures) (c .before .before .before .before .before .before .before .before .before .before .before .before .before .before .before .if1 .left) (c .before .before .before .before .before .before .before .before .before .before .before .before .before .before .changes-suit .ensures) (c .before .before .before .before .before .before .before .before .before .before .before .before .before .if2 .left)
 
 pub plan-spec : {M : Type 1} → statement M
 plan-spec =
@@ -111,17 +91,10 @@ plan-spec =
     same-length-7
     same-length-8
     returns-2
-    fill-requires
-    enum-told
-    enum-known-t
+    fill-within-requires
     returns-3
     same-length-9
     same-length-10
     same-length-11
     same-length-12
-    returns-4
-    same-length-13
-    same-length-14
-    same-length-15
-    same-length-16
-    returns-5)
+    returns-4)

@@ -1,16 +1,17 @@
--- `running::simulate` meets its contract: past the other questions the areas are filled, and evaluated if the frames fit.
+-- `running::simulate` meets its contract: past the other questions the areas are filled, and evaluated if the frames are kept.
 -- Assumes nothing.
+use Rattle.limiting.proofs.Within.{within-no, within-kept}
 use Rattle.engine.proofs.Laid.{given, planned, driven}
-use Rattle.engine.proofs.Answering.{simulate-13, simulate-yes}
+use Rattle.engine.proofs.Answering.{simulate-no, simulate-yes}
 use borrow.Author.Needs.{needs}
 use Rattle.engine.proofs.running.simulate.Statement.{statement}
 use Rattle.engine.proofs.running.simulate.Tie as tie
 
-fill-requires : tie.Need-fill-requires
-fill-requires c κs = let s = c .before .before .before .before .before .before .before .before .before .before .before .before .before .before in (given _ (s .pre .0), s .pre .1, s .pre .2)
+fill-within-requires : tie.Need-fill-within-requires
+fill-within-requires c κs = let s = c .before .before .before .before .before .before .before .before .before .before .before .before .before .before in (given _ (s .pre .0), s .pre .1, s .pre .2)
 
-enum-told : tie.Need-enum-told
-enum-told c = search needs
+enum-known-n : tie.Need-enum-known-n
+enum-known-n c = search needs
 
 clear-words-requires : tie.Need-clear-words-requires
 clear-words-requires c κs = search needs
@@ -19,11 +20,7 @@ enum-known-t : tie.Need-enum-known-t
 enum-known-t c = search needs
 
 evaluate-requires : tie.Need-evaluate-requires
-evaluate-requires c κs =
-    let s = c .before .before .before .before .before .before .before .before .before .before .before .before .before .before .before .before .before .before .before .before .before .before .before .before .before .before .before .before .before .before in
-    let p = c .before .before .before .before .before .before .before .before .before .before .before .before .before .before .before .fill in
-    let t = c .before .before .before .before .before .t .given .1 in
-    ((planned _ (s .pre .0) (p .ensures) t (p .kept .1 .1 .1 .1 .1 .0) (p .kept .1 .1 .1 .1 .1 .1 .0) (p .kept .1 .1 .1 .1 .1 .1 .1 .0) (p .kept .1 .1 .1 .1 .1 .1 .1 .1 .0), s .pre .1, s .pre .2), driven _ (s .pre .0) (p .ensures) t)
+evaluate-requires c κs = let s = c .before .before .before .before .before .before .before .before .before .before .before .before .before .before .before .before .before .before .before .before .before .before .before .before .before .before .before .before .before .before in let k = (within-kept _ (c .before .before .before .before .before .before .before .before .before .before .before .before .before .before .before .before .before .before .before .before .before .before .before .before .before .before .before .before .before .before .args .limit) _ (c .before .before .before .before .before .before .before .before .before .before .before .before .before .before .before .fill-within .ensures) (c .before .before .before .before .before .t .given .1)) in let l = c .before .before .before .before .before .before .before .before .before .before .before .before .before .before .before .fill-within .kept .1 .1 .1 .1 .1 .1 in ((planned _ (s .pre .0) k (l .0) (l .1 .0) (l .1 .1 .0) (l .1 .1 .1 .0), s .pre .1, s .pre .2), driven _ (s .pre .0) k)
 
 same-length : tie.Need-same-length
 same-length c = search needs
@@ -41,7 +38,7 @@ same-length-5 : tie.Need-same-length-5
 same-length-5 c = search needs
 
 returns : tie.Need-returns
-returns c = simulate-13 _ _ (c .before .before .before .before .before .before .before .before .before .before .before .before .before .before .before .before .before .before .before .before .before .before .before .before .before .before .before .before .before .pre .0) (c .before .before .before .before .before .before .before .before .before .before .before .before .before .before .fill .ensures) (c .before .before .before .before .enum-told .given .1) (c .before .before .clear-words .ensures)
+returns c = simulate-no _ (c .before .before .before .before .before .before .before .before .before .before .before .before .before .before .before .before .before .before .before .before .before .before .before .before .before .before .before .before .before .before .args .limit) _ (c .before .before .before .before .before .before .before .before .before .before .before .before .before .before .before .before .before .before .before .before .before .before .before .before .before .before .before .before .before .before .pre .0) (within-no _ (c .before .before .before .before .before .before .before .before .before .before .before .before .before .before .before .before .before .before .before .before .before .before .before .before .before .before .before .before .before .before .args .limit) _ (c .before .before .before .before .before .before .before .before .before .before .before .before .before .before .before .fill-within .ensures) (c .before .before .before .before .before .n .given .1)) (c .before .before .clear-words .ensures)
 
 same-length-6 : tie.Need-same-length-6
 same-length-6 c = search needs
@@ -59,14 +56,14 @@ same-length-10 : tie.Need-same-length-10
 same-length-10 c = search needs
 
 returns-2 : tie.Need-returns-2
-returns-2 c = simulate-yes _ _ (c .before .before .before .before .before .before .before .before .before .before .before .before .before .before .before .before .before .before .before .before .before .before .before .before .before .before .before .before .before .before .before .before .before .pre .0) (c .before .before .before .before .before .before .before .before .before .before .before .before .before .before .before .before .before .before .fill .ensures) (c .before .before .before .before .before .before .before .before .t .given .1) (c .before .before .evaluate .ensures)
+returns-2 c = simulate-yes _ (c .before .before .before .before .before .before .before .before .before .before .before .before .before .before .before .before .before .before .before .before .before .before .before .before .before .before .before .before .before .before .before .before .before .args .limit) _ (c .before .before .before .before .before .before .before .before .before .before .before .before .before .before .before .before .before .before .before .before .before .before .before .before .before .before .before .before .before .before .before .before .before .pre .0) (within-kept _ (c .before .before .before .before .before .before .before .before .before .before .before .before .before .before .before .before .before .before .before .before .before .before .before .before .before .before .before .before .before .before .before .before .before .args .limit) _ (c .before .before .before .before .before .before .before .before .before .before .before .before .before .before .before .before .before .before .fill-within .ensures) (c .before .before .before .before .before .before .before .before .t .given .1)) (c .before .before .evaluate .ensures)
 
 pub simulate-spec : {M : Type 1} → statement M
 simulate-spec =
     tie.close
     (tie.spec
-    fill-requires
-    enum-told
+    fill-within-requires
+    enum-known-n
     clear-words-requires
     enum-known-t
     evaluate-requires

@@ -27,7 +27,7 @@ same-length-5 : tie.Need-same-length-5
 same-length-5 c = search needs
 
 returns : tie.Need-returns
-returns c = early-no _ _ _ _ (c .before .before .before .questions .ensures) (c .before .n .given .1)
+returns c = early-no _ _ _ _ _ (c .before .before .before .questions .ensures) (c .before .n .given .1)
 
 enum-known-inputs : tie.Need-enum-known-inputs
 enum-known-inputs c = search needs
@@ -60,7 +60,7 @@ returns-2 : tie.Need-returns-2
 returns-2 c =
     let f = c .before .before .before .before .questions .ensures in
     let e = c .before .before .inputs .given .1 in
-    unsuited-no _ _ _ _ f e (too-few _ _ _ f e (c .if1 .taken))
+    unsuited-no _ _ _ _ _ f e (too-few _ _ _ f e (c .if1 .taken))
 
 run-requires : tie.Need-run-requires
 run-requires c κs = search needs
@@ -87,7 +87,7 @@ same-length-15 : tie.Need-same-length-15
 same-length-15 c = search needs
 
 returns-3 : tie.Need-returns-3
-returns-3 c = run-refused _ _ _ _ (enough _ _ _ (c .before .before .before .before .before .before .before .before .before .before .before .before .before .before .before .before .before .before .before .before .before .before .before .questions .ensures) (c .before .before .before .before .before .before .before .before .before .before .before .before .before .before .before .before .before .before .before .before .before .inputs .given .1) (c .before .before .before .before .before .before .before .before .before .before .before .before .before .before .before .before .before .before .before .if1 .left)) _ (c .before .before .before .before .before .before .before .before .before .before .before .before .before .run .ensures) (c .before .n2 .given .1)
+returns-3 c = run-refused _ _ _ _ _ (enough _ _ _ (c .before .before .before .before .before .before .before .before .before .before .before .before .before .before .before .before .before .before .before .before .before .before .before .questions .ensures) (c .before .before .before .before .before .before .before .before .before .before .before .before .before .before .before .before .before .before .before .before .before .inputs .given .1) (c .before .before .before .before .before .before .before .before .before .before .before .before .before .before .before .before .before .before .before .if1 .left)) _ (c .before .before .before .before .before .before .before .before .before .before .before .before .before .run .ensures) (c .before .n2 .given .1)
 
 same-length-16 : tie.Need-same-length-16
 same-length-16 c = search needs
@@ -105,7 +105,7 @@ same-length-20 : tie.Need-same-length-20
 same-length-20 c = search needs
 
 returns-4 : tie.Need-returns-4
-returns-4 c = run-accepted _ _ _ _ (enough _ _ _ (c .before .before .before .before .before .before .before .before .before .before .before .before .before .before .before .before .before .before .before .before .before .before .questions .ensures) (c .before .before .before .before .before .before .before .before .before .before .before .before .before .before .before .before .before .before .before .before .inputs .given .1) (c .before .before .before .before .before .before .before .before .before .before .before .before .before .before .before .before .before .before .if1 .left)) _ (c .before .before .before .before .before .before .before .before .before .before .before .before .run .ensures) (c .enum-told .given .1)
+returns-4 c = run-accepted _ _ _ _ _ (enough _ _ _ (c .before .before .before .before .before .before .before .before .before .before .before .before .before .before .before .before .before .before .before .before .before .before .questions .ensures) (c .before .before .before .before .before .before .before .before .before .before .before .before .before .before .before .before .before .before .before .before .inputs .given .1) (c .before .before .before .before .before .before .before .before .before .before .before .before .before .before .before .before .before .before .if1 .left)) _ (c .before .before .before .before .before .before .before .before .before .before .before .before .run .ensures) (c .enum-told .given .1)
 
 pub run-asked-spec : {M : Type 1} → statement M
 run-asked-spec =

@@ -1,9 +1,12 @@
--- `clear_all` meets its contract: each area is cleared.
+-- `clear_plan` meets its contract: each area is cleared.
 -- Assumes nothing.
-use Rattle.layout.proofs.Filling.{all-cleared}
+use Rattle.clearing.proofs.Areas.{all-cleared}
 use borrow.Author.Needs.{needs}
-use Rattle.layout.proofs.clear_all.Statement.{statement}
-use Rattle.layout.proofs.clear_all.Tie as tie
+use Rattle.clearing.proofs.clear_plan.Statement.{statement}
+use Rattle.clearing.proofs.clear_plan.Tie as tie
+
+returns : tie.Need-returns
+returns c = all-cleared _ _ _ _ (search needs) (search needs) (search needs) (search needs)
 
 clear-requires : tie.Need-clear-requires
 clear-requires c κs = search needs
@@ -29,11 +32,8 @@ same-length-3 c = search needs
 same-length-4 : tie.Need-same-length-4
 same-length-4 c = search needs
 
-returns : tie.Need-returns
-returns c = all-cleared _ _ _ _ (search needs) (search needs) (search needs) (search needs)
-
-pub clear-all-spec : {M : Type 1} → statement M
-clear-all-spec =
+pub clear-plan-spec : {M : Type 1} → statement M
+clear-plan-spec =
     tie.close
     (tie.spec
     clear-requires
