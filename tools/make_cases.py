@@ -137,6 +137,7 @@ class Run:
             return
         self.nets = frames(self.moments, records)
         self.times = [times for times, _, _ in self.nets]
+        self.total = sum(map(len, self.times))
         self.plan = planned(self.nets)
         self.last = max(t for times in self.times for t in times)
         if self.plan and not self.fault:
@@ -204,6 +205,7 @@ def verdict(run, expectations):
 # ---- sums of areas
 
 RIGHT = (320, 2048, 2048, 16384, 2048)
+MOST = 2048  # the largest limit on the frame total
 
 
 def summed(numbers, s=0):
@@ -243,14 +245,20 @@ def with_sums(answer, sums):
     return f"{answer} {' '.join(map(str, sums))}"
 
 
-def plan_part(run, lengths, untouched):
+def too_many(run, limit):
+    """The "no" of the last two questions: 13, then 22; or 0. A limit that makes no sense is 22 for any total."""
+    return 13 if not run.plan else 22 if limit not in range(1, MOST + 1) or run.total > limit else 0
+
+
+def plan_part(run, limit, lengths, untouched):
     """What Plan answers and leaves. It is not handed the values."""
     if lengths[:4] != RIGHT[:4]:
         return with_sums("refused 10", untouched[:4])
     if run.moments is None:
         return with_sums("refused 20", untouched[:4])
-    if not run.plan:
-        return with_sums("refused 13", CLEARED[:4])
+    number = too_many(run, limit)
+    if number:
+        return with_sums(f"refused {number}", CLEARED[:4])
     answer, areas = run.plan
     return with_sums(answer, left(areas))
 
@@ -263,7 +271,7 @@ def asked_of(run, lengths):
 def sums_after(run, fault, untouched):
     """What Run leaves, with the number of its first "no"."""
     if fault:
-        return CLEARED if fault == 13 else untouched
+        return CLEARED if fault in (13, 22) else untouched
     quarters = [word >> shift & 65535 for net in run.values for word in net for shift in (0, 16, 32, 48)]
     return left(run.plan[1] + [quarters])
 
@@ -278,7 +286,7 @@ def lanes_seen(run, net, time):
     return f"{level_at(times, values, time):016x} {frame_at(times, time)} {counts}"
 
 
-def case_line(number, inputs, run, lengths, rubbish, net, time):
+def case_line(number, inputs, run, limit, lengths, rubbish, net, time):
     """What the reader, Plan, Run's questions and Run answer and leave, and what is seen of the net."""
     untouched = filled(lengths, rubbish)
     if number:
@@ -286,38 +294,39 @@ def case_line(number, inputs, run, lengths, rubbish, net, time):
         return [refused, with_sums(refused, untouched[:4]), refused, with_sums(refused, untouched)]
     read = f"accepted {inputs} {len(run.records)}"
     asked = asked_of(run, lengths)
-    fault = asked or (0 if run.plan else 13)
+    fault = asked or too_many(run, limit)
     ran = with_sums(f"refused {fault}" if fault else run.plan[0], sums_after(run, fault, untouched))
-    line = [read, plan_part(run, lengths, untouched), f"refused {asked}" if asked else read, ran]
+    line = [read, plan_part(run, limit, lengths, untouched), f"refused {asked}" if asked else read, ran]
     return line if fault else line + [lanes_seen(run, net, time)]
 
 
-def mark_line(number, inputs, run, lengths, rubbish, expectations):
+def mark_line(number, inputs, run, limit, lengths, rubbish, expectations):
     """What Mark answers and leaves."""
     untouched = filled(lengths, rubbish)
     fault = number or asked_of(run, lengths)
     if not fault and not all(suits(e, inputs + len(run.records)) for e in expectations):
         fault = 12
-    fault = fault or (0 if run.plan else 13)
+    fault = fault or too_many(run, limit)
     return with_sums(f"refused {fault}" if fault else verdict(run, expectations), sums_after(run, fault, untouched))
 
 
 # ---- the cases
 
 
-def add(file, number, inputs, run, lengths=RIGHT, rubbish=None, net=0, time=0, expectations=(), marked_only=False):
+def add(file, number, inputs, run, limit=MOST, lengths=RIGHT, rubbish=None, net=0, time=0, expectations=(),
+        marked_only=False):
     """A case with a circuit, for both programs: the reader's number, or 0 with the inputs and the run of an accepted file."""
     rubbish = rng.randrange(65536) if rubbish is None else rubbish
-    head = len(file).to_bytes(4, "little") + b"".join(map(two, lengths)) + two(rubbish)
+    head = len(file).to_bytes(4, "little") + b"".join(map(two, lengths)) + two(rubbish) + two(limit)
     head += bytes([len(run.counts)]) + two(len(run.changes)) + bytes([len(run.before)]) + two(len(run.after))
     data = file + bytes(run.counts) + b"".join(map(two, run.changes))
     data += b"".join(word.to_bytes(8, "little") for word in run.before + run.after)
     records = b"".join(two(n) + bytes([l]) + two(a) + two(b) + bytes([x]) for n, l, a, b, x in expectations)
     marks.append((bytes([len(expectations)]) + head + data + records,
-                  mark_line(number, inputs, run, lengths, rubbish, expectations)))
+                  mark_line(number, inputs, run, limit, lengths, rubbish, expectations)))
     if not marked_only:
         cases.append((b"c" + two(net) + two(time) + head + data,
-                      "; ".join(case_line(number, inputs, run, lengths, rubbish, net, time))))
+                      "; ".join(case_line(number, inputs, run, limit, lengths, rubbish, net, time))))
 
 
 class Words:
@@ -542,7 +551,7 @@ bench([step(2 + k) for k in range(7)] + [Record(XNOR, 1, 1, list(range(1, 8)))],
 # ---- question 13
 
 
-def counts(inputs, gates):
+def frame_counts(inputs, gates):
     """How many frames each net has."""
     return [len(times) for times, _, _ in frames(once(inputs), gates)]
 
@@ -553,7 +562,7 @@ def comb(n):
     for d in (1, 9, 17, 25, 33, 41, 49, 49 + n - 57):
         gates.append(Record(NOT, d, 0, [9]))
     gates.append(Record(AND, 7, 5, list(range(10, 18))))
-    assert counts(1, gates)[-1] == n
+    assert frame_counts(1, gates)[-1] == n
     return gates
 
 
@@ -561,13 +570,13 @@ def copies(inputs, total, fanins):
     """So many frames in all: a comb with a net of 64 and nets of 9, and copies of those and of an input. A copy of the net
     of 64 names it so many times in its fan-in list."""
     gates = [Record(g.kind, g.d, g.di, [f + inputs - 1 if f else 0 for f in g.fanins]) for g in comb(64)]
-    have = counts(inputs, gates)
+    have = frame_counts(inputs, gates)
     rest = total - sum(have)
     big, nine = rest // 64 - 1, rest % 2
     small = (rest - 64 * big - 9 * nine) // 2
     gates += [Record(BUF if fanins == 1 else AND, 1 + k % 3, 2, [have.index(64)] * fanins) for k in range(big)]
     gates += [Record(BUF, 2, 0, [net]) for net in [have.index(9)] * nine + [0] * small]
-    assert sum(counts(inputs, gates)) == total
+    assert sum(frame_counts(inputs, gates)) == total
     return gates
 
 
@@ -969,6 +978,101 @@ for before in (0, 2**64 - 1):  # no changes: one frame on each net, without an e
             for expected in (level, 1 - level):
                 good(3, carry, [before] * 3, [], [[]] * 3, expectations=((net, 63, a, b, expected),), marked_only=True)
 
+# ---- question 22, the caller's limit on the frame total, and its place among the others
+
+SENSELESS = [0, 2049, 2304, 32769, 65535]  # 2,304 has the bytes of 9, exchanged
+
+
+def under(limits, inputs, records, moments=None, **more):
+    """One circuit with the same words, the same look and the same expectations under each of these limits. Under all that
+    allow its frame total the lines are the same."""
+    moments = moments or once(inputs)
+    lists = [*map(len, moments)], [*itertools.chain(*moments)]
+    words = random_words(inputs), random_words(len(lists[1]))
+    run = run_of(inputs, tuple(records), *map(tuple, words + lists))
+    more["net"], more["time"] = rng.randrange(inputs + len(records)), rng.choice([0, 1, 9, 65535])
+    more["expectations"] = some_expectations(run, 6, [rng.randrange(64)]) if run.plan else ()
+    made = len(cases), len(marks)
+    for limit in limits:
+        good(inputs, records, *words, moments, limit=limit, **more)
+    for new in (cases[made[0]:], marks[made[1]:]):
+        assert len({line for _, line in new if "refused" not in line}) < 2
+
+
+def near(total):
+    return [total - 1, total, total + 1]
+
+
+def total_of(inputs, records, moments=None):
+    return sum(len(times) for times, _, _ in frames(moments or once(inputs), records))
+
+
+def near_total(inputs, records, moments=None, also=()):
+    """Under limits just below, at and just above the frame total, and others."""
+    under(near(total_of(inputs, records, moments)) + [*also], inputs, records, moments)
+
+
+# the smallest totals, where an input does not change and where it does; a fan-in total and a last time above the limit
+for gates in ([], [Record(NOT, 63, 63, [0])]):
+    under([0, 1, 2, 3], 1, gates, [[]])
+    under([1, 2, 3, 4, 5], 1, gates)
+under([MOST - 1, MOST] + SENSELESS, 1, [], [[]])
+for moments in ([[]], [[1]]):
+    near_total(1, wave_circuit(1), moments, near(256) + [MOST - 1, MOST] + SENSELESS)
+near_total(8, [Record(AND, 1, 0, [*range(8)]), Record(OR, 1, 0, [8] * 8), Record(XOR, 63, 0, [9] * 8), buf])
+# the limit is passed at the last input, and at the last gate
+near_total(32, [], [[*range(1, 9)]] * 32)
+near_total(32, [Record(BUF, 1 + j % 63, 0, [j % 32]) for j in range(128)])
+# the demo's limit, and the course's
+for total in near(256):
+    under(near(256), 2, copies(2, total, 1))
+    under([256], 1, copies(1, total, 8))
+for total in (2047, 2048):
+    under([1, 256, 2046, 2047, 2048, 2049, 65535], 1, copies(1, total, 1))
+# 13 before 22: too many frames in all, or on one net, under any limit
+under([0, 2048, 2049, 65535], 1, copies(1, 2049, 1))
+near_total(1, comb(65), also=[0, 1, 2048, 65535])
+# every sort of rubbish before 22
+for rubbish in (0, 1, 255, 32768, 65279, 65535):
+    under([0, 6], 1, wave_circuit(1), rubbish=rubbish)
+
+# each other question fails before 22 is asked, whatever is wrong with the limit
+wrong_limits = itertools.cycle(SENSELESS + [1])
+for number, data in (
+        (1, b""), (2, file_of(33, [buf])), (3, two(1) + two(129) + bytes(4 * 129)), (4, two(1) + two(1) + bytes(3)),
+        (5, file_of(1, [buf], tail=b"\0")), (6, file_of(1, [Record(8, 1, 0, [0])])), (7, file_of(1, [Record(BUF, 64, 0, [0])])),
+        (8, file_of(1, [Record(NOT, 1, 0, [0, 0])])), (9, file_of(1, [Record(NOT, 1, 0, [1])]))):
+    for limit in (0, next(wrong_limits)):
+        add(data, number, 0, Words(random_words(1), random_words(1)), limit=limit)
+for lengths in around(RIGHT):  # Plan does not ask about the values, so that it comes to the limit there
+    handed(2, small, *SUITED[0], lengths=lengths, limit=next(wrong_limits))
+for before, after in ((1, 3), (3, 3), (2, 2), (2, 4), (0, 0), (2, 400)):  # nor about the words
+    handed(2, small, *SUITED[0], random_words(before), random_words(after), limit=next(wrong_limits))
+for pair in UNSUITED[::3]:
+    handed(2, small, *pair, limit=next(wrong_limits))
+total = total_of(2, small, [[3, 9], [1]])
+for wrong in ((4, 0, 0, 0, 0), (0, 64, 0, 0, 0), (0, 0, 1, 0, 0), (0, 0, 0, 0, 2)):
+    for limit in (0, total - 1, total, 2049):
+        handed(2, small, *SUITED[0], expectations=[wrong], limit=limit, marked_only=limit > 0)
+    handed(2, crowded, *SUITED[0], expectations=[wrong], limit=next(wrong_limits), marked_only=True)
+for more in ({"lengths": (0,) * 5}, {"before": []}, {}):  # all the questions from these on
+    handed(2, crowded, [2, 1], [9, 3, 1], expectations=[(65535, 64, 1, 0, 2)], limit=0, **more)
+
+# Mark: lists that are met, that are not and that are empty, under limits that just allow the total and just do not
+net = len(marked)
+met = [(net, 37, start, end, level) for start, end, level in spans(marked_run, net, 37)]
+for expectations in ([], met[:12], met[:11] + [broken(met[40])], [broken(met[0])]):
+    for limit in near(marked_run.total) + [MOST]:
+        mark(1, marked, marked_words, expectations, limit=limit)
+
+# at random
+for turn in range(24):
+    inputs = rng.choice([1, 2, 3, 8])
+    gates = lively(inputs, rng.choice([0, 1, 5, 20, 40]), 8)
+    moments = rng.choice([once(inputs), bursts(inputs, 3, 40), bursts(inputs, 8, 255)])
+    total = total_of(inputs, gates, moments)
+    under([rng.choice(near(total)), rng.randint(1, 2 * total), rng.randrange(65536)][turn % 2:], inputs, gates, moments)
+
 # ---- written out; a last case that the program's buffers do not hold ends each run
 
 
@@ -982,11 +1086,11 @@ def write(program, made, too_large):
 
 
 lengths = b"".join(map(two, RIGHT))
-write("cases", cases, b"c" + bytes(4) + (70001).to_bytes(4, "little") + lengths + bytes(8))  # a file of 70,001 bytes
-write("marks", marks, b"\x0d" + (4).to_bytes(4, "little") + lengths + bytes(8))  # 13 expectations
+write("cases", cases, b"c" + bytes(4) + (70001).to_bytes(4, "little") + lengths + bytes(10))  # a file of 70,001 bytes
+write("marks", marks, b"\x0d" + (4).to_bytes(4, "little") + lengths + bytes(10))  # 13 expectations
 
 lines = [line for data, line in cases if data[:1] == b"c"]
 print("cases:", len(lines), "circuits,", sum("; planned" in line for line in lines), "planned,",
-      sum("refused 13" in line for line in lines), "with 13;", len(cases) - len(lines), "looks")
+      *(f"{sum(f'refused {n} ' in line for line in lines)} with {n}," for n in (13, 22)), len(cases) - len(lines), "looks")
 verdicts = collections.Counter(" ".join(line.split()[:2]) if line[0] != "u" else "unmet" for _, line in marks)
 print("marks:", len(marks), "circuits;", ", ".join(f"{n} {answer}" for answer, n in sorted(verdicts.items())))

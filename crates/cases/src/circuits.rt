@@ -15,6 +15,7 @@ use testbench::end_line;
 use testbench::fanins_length;
 use testbench::file_length;
 use testbench::inertial_length;
+use testbench::limit_of;
 use testbench::read_case;
 use testbench::rubbish_directory;
 use testbench::rubbish_fanins;
@@ -98,6 +99,7 @@ fn plan_in(
         file,
         counts,
         changes,
+        limit_of(head),
         &mut d[0..directory_length(head)],
         &mut t[0..times_length(head)],
         &mut i[0..inertial_length(head)],
@@ -178,6 +180,7 @@ fn run_in(
         file,
         counts,
         changes,
+        limit_of(head),
         &mut d[0..directory_length(head)],
         &mut t[0..times_length(head)],
         &mut i[0..inertial_length(head)],

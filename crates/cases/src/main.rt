@@ -1,8 +1,8 @@
 // The test program. Standard input is a stream of cases of any length, standard output has a line a case. Numbers of more
 // than one byte are little-endian. The first byte of a case says what it is.
 //
-// `c`, the calls on a circuit. First a net (2) and a time (2), then a circuit with its change times and words, as the top of
-// crates/testbench/src/lib.rt describes it. The line has, with a semicolon between them:
+// `c`, the calls on a circuit. First a net (2) and a time (2), then a circuit with the caller's limit, its change times and its
+// words, as the top of crates/testbench/src/lib.rt describes it. The line has, with a semicolon between them:
 // - what the reader answers, `accepted` with I and G;
 // - what Plan answers, `planned` with the frame total, the fan-in total and the last potential time, and behind it a sum of
 //   each of its four areas as it leaves them;

@@ -16,6 +16,7 @@ use testbench::end_line;
 use testbench::fanins_length;
 use testbench::file_length;
 use testbench::inertial_length;
+use testbench::limit_of;
 use testbench::limited;
 use testbench::read_all;
 use testbench::read_case;
@@ -141,6 +142,7 @@ fn mark_in<'a>(
         file,
         counts,
         changes,
+        limit_of(head),
         &mut d[0..directory_length(head)],
         &mut t[0..times_length(head)],
         &mut i[0..inertial_length(head)],

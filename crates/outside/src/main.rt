@@ -32,6 +32,9 @@ use testbench::show_refused;
 use testbench::ticks_of;
 use testbench::words_of;
 
+// Every frame total that Run can accept is within this limit.
+const FULL_COURSE: u16 = 2048;
+
 // No input has as many vectors as there are turns: each takes two bytes or more.
 fn main() {
     let mut turns: u64 = 0;
@@ -176,6 +179,7 @@ fn show_run(
         file,
         counts,
         &changes[0..total],
+        FULL_COURSE,
         &mut directory,
         &mut times,
         &mut inertial,

@@ -23,7 +23,7 @@ pub struct Case {
 }
 
 pub fn read_case() -> Case {
-    let mut head = [0u8; 22];
+    let mut head = [0u8; 24];
     let whole = read_all(&mut head);
     case_of(head, whole && is_held(head))
 }

@@ -1,10 +1,10 @@
-// The head of a circuit with its words. A number that its buffer does not hold is taken for the limit, so that nothing more has
-// to be shown of it; `is_held` says whether there is one.
+// The head of a circuit with its words. A length that its buffer does not hold is taken for the buffer's own, so that nothing
+// more has to be shown of it; `is_held` says whether there is one.
 ghost use Prim.Native.Nat.{_<_, _≤_};
 use crate::input::limited;
 use crate::input::wide;
 
-pub type Head = [u8; 22];
+pub type Head = [u8; 24];
 
 // Whether the buffers hold the case.
 pub fn is_held(head: Head) -> bool {
@@ -14,10 +14,10 @@ pub fn is_held(head: Head) -> bool {
         && is_within(head, 10, 16400)
         && is_within(head, 12, 2100)
         && file_number(head) <= 70000
-        && head[16] <= 80
-        && is_within(head, 17, 400)
-        && head[19] <= 80
-        && is_within(head, 20, 400)
+        && head[18] <= 80
+        && is_within(head, 19, 400)
+        && head[21] <= 80
+        && is_within(head, 22, 400)
 }
 
 fn is_within(head: Head, at: usize, limit: usize) -> bool {
@@ -75,26 +75,31 @@ pub fn rubbish_of(head: Head) -> u16 {
     numbers::number_at(&head, 14)
 }
 
+// The caller's limit on the frame total, any number of two bytes.
+pub fn limit_of(head: Head) -> u16 {
+    numbers::number_at(&head, 16)
+}
+
 pub fn counts_length(head: Head) -> usize
     ensures { λ r. ⌜ r ≤ 80 ⌝ }
 {
-    limited(wide(head[16]), 80)
+    limited(wide(head[18]), 80)
 }
 
 pub fn changes_length(head: Head) -> usize
     ensures { λ r. ⌜ r ≤ 400 ⌝ }
 {
-    limited(length_at(head, 17), 400)
+    limited(length_at(head, 19), 400)
 }
 
 pub fn before_count(head: Head) -> usize
     ensures { λ r. ⌜ r ≤ 80 ⌝ }
 {
-    limited(wide(head[19]), 80)
+    limited(wide(head[21]), 80)
 }
 
 pub fn after_count(head: Head) -> usize
     ensures { λ r. ⌜ r ≤ 400 ⌝ }
 {
-    limited(length_at(head, 20), 400)
+    limited(length_at(head, 22), 400)
 }
