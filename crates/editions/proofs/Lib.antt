@@ -1,0 +1,10 @@
+-- Laws that belong to no one function.
+pub mod Kinded
+pub mod Bytewise
+pub mod Widths
+pub mod Heads
+pub mod Gated
+pub mod Accepted
+pub mod Written
+pub mod Encoded
+pub mod Faithful
