@@ -65,7 +65,7 @@ pub fn put_frame(output: &mut [u8], at: usize, time: Time, level: bool) -> usize
     ensures { λ r. ⌜ Wrote (now (output .entry)) at (frameText (time .0) level) (now (output .exit)) r ⌝ }
 {
     let a = put(output, at, BLANK);
-    let b = put_number(output, a, time.0 as u32);
+    let b = put_number(output, a, time.0);
     let c = put(output, b, EQUALS);
     put(output, c, ZERO + level as u8)
 }

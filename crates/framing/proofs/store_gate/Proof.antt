@@ -64,17 +64,17 @@ shared-slice-read-end c = let s = c .before .before .before .before .before .bef
 cast-t29 : tie.Need-cast-t29
 cast-t29 c = search needs
 
-add-t33 : tie.Need-add-t33
-add-t33 c = search needs
+add-t34 : tie.Need-add-t34
+add-t34 c = search needs
 
-cast-t34 : tie.Need-cast-t34
-cast-t34 c = search needs
+cast-t35 : tie.Need-cast-t35
+cast-t35 c = search needs
 
-mul-t35 : tie.Need-mul-t35
-mul-t35 c = omega (arith, c .before .before .before .before .before .before .before .before .before .before .before .before .before .before .before .before .before .before .before .before .before .before .before .before .pre .1 .1 .few-fanins)
+mul-t36 : tie.Need-mul-t36
+mul-t36 c = omega (arith, c .before .before .before .before .before .before .before .before .before .before .before .before .before .before .before .before .before .before .before .before .before .before .before .before .pre .1 .1 .few-fanins)
 
-add-t36 : tie.Need-add-t36
-add-t36 c = omega (arith, c .before .before .before .before .before .before .before .before .before .before .before .before .before .before .before .before .before .before .before .before .before .before .before .before .pre .1 .1 .few-fanins)
+add-t37 : tie.Need-add-t37
+add-t37 c = omega (arith, c .before .before .before .before .before .before .before .before .before .before .before .before .before .before .before .before .before .before .before .before .before .before .before .before .pre .1 .1 .few-fanins)
 
 later-of-requires : tie.Need-later-of-requires
 later-of-requires c κs = search needs
@@ -126,10 +126,10 @@ store-gate-spec =
     mul-end
     shared-slice-read-end
     cast-t29
-    add-t33
-    cast-t34
-    mul-t35
-    add-t36
+    add-t34
+    cast-t35
+    mul-t36
+    add-t37
     later-of-requires
     same-length
     same-length-2

@@ -8,9 +8,6 @@ use Rattle.text.proofs.put_frame.Tie as tie
 put-requires : tie.Need-put-requires
 put-requires c κs = search needs
 
-cast-put-number : tie.Need-cast-put-number
-cast-put-number c = search needs
-
 put-number-requires : tie.Need-put-number-requires
 put-number-requires c κs = search needs
 
@@ -21,7 +18,7 @@ cast-put : tie.Need-cast-put
 cast-put c = search needs
 
 add-put : tie.Need-add-put
-add-put c = record { fits = bit-small (c .before .before .before .before .before .before .before .before .before .before .before .before .before .before .before .args .level) }
+add-put c = record { fits = bit-small (c .before .before .before .before .before .before .before .before .before .before .before .before .before .before .args .level) }
 
 put-requires-3 : tie.Need-put-requires-3
 put-requires-3 c κs = search needs
@@ -30,14 +27,13 @@ same-length : tie.Need-same-length
 same-length c = search needs
 
 returns : tie.Need-returns
-returns c = frame-put _ _ (c .before .before .before .before .before .before .before .before .before .before .before .before .before .before .before .put .ensures) (c .before .before .before .before .before .before .before .before .before .before .put-number .ensures) (c .before .before .before .before .before .before .put2 .ensures) (c .before .before .put3 .ensures)
+returns c = frame-put _ _ (c .before .before .before .before .before .before .before .before .before .before .before .before .before .before .put .ensures) (c .before .before .before .before .before .before .before .before .before .before .put-number .ensures) (c .before .before .before .before .before .before .put2 .ensures) (c .before .before .put3 .ensures)
 
 pub put-frame-spec : {M : Type 1} → statement M
 put-frame-spec =
     tie.close
     (tie.spec
     put-requires
-    cast-put-number
     put-number-requires
     put-requires-2
     cast-put

@@ -54,8 +54,8 @@ in-area c =
     let s = c .before .before .before .before .before .before .before in
     place-in _ _ _ _ _ _ (c .before .before .before .loop .inv .0) (s .pre .1 .1 .1) (c .before .before .loop-test .taken)
 
-cast-t14 : tie.Need-cast-t14 Inv-loop μ-loop
-cast-t14 c =
+cast-t16 : tie.Need-cast-t16 Inv-loop μ-loop
+cast-t16 c =
     let s = c .before .before .before .before .before .before .before in
     omega (arith, c .begun-by .ensures, last-within (now (s .args .fanin)) (getD (now (s .args .own)) (c .before .before .before .loop .k) 0 - s .args .delay) (start s), s .pre .0 .0 .few)
 
@@ -103,7 +103,7 @@ index-column-spec =
     mul-t11
     shared-slice-read-t14
     begun-by-requires
-    cast-t14
+    cast-t16
     mul-fanins
     slice-write-fanins
     add-place
