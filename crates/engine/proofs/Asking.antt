@@ -14,8 +14,8 @@ use Rattle.lists.proofs.Ladders.{first, first-here, first-none, firstNo-append,
 use Rattle.method.specs.Changes.{Schedule, changesSuit}
 use Rattle.method.specs.WordLists.{Lengths}
 use Rattle.circuit.specs.File.{inputsOf, gatesOf}
-use Rattle.circuit.specs.Questions.{Reading}
-use Rattle.circuit.specs.Questions.readings as R
+use Rattle.editions.specs.declared.Reading.{Reading}
+use Rattle.editions.specs.declared.Reading.the-variants as R
 use Rattle.circuit.specs.Questions as reader
 use Rattle.circuit.specs.Task.{Task}
 use Rattle.circuit.proofs.Gated.{questions-numbered}

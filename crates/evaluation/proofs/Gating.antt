@@ -34,7 +34,7 @@ use Rattle.method.proofs.Bits.{pack-lane, pack-ext}
 use Rattle.method.proofs.Laying.{frames-end, times-next}
 use Rattle.method.proofs.Parts.{nets-count, word-each, words-before}
 use Rattle.method.proofs.Prefix.{no-rows}
-use Rattle.circuit.specs.File.{GateRecord}
+use Rattle.editions.specs.declared.GateRecord.{GateRecord}
 use Rattle.circuit.specs.File.{inputsOf, gatesOf, faninAt, recordOf}
 use Rattle.circuit.specs.Task.{Task, circuitIn, momentsIn, framesIn}
 use Rattle.circuit.proofs.Bounded.{no-feedback}

@@ -10,7 +10,7 @@ use borrow.Rule.Slice.PartMut.{putMid}
 use Rattle.lists.proofs.Tabled.{from-ext, tabulate-at}
 use Rattle.method.specs.Words.{lanes, lane, pack}
 use Rattle.method.proofs.Bits.{pack-lt, pack-is}
-use Rattle.circuit.specs.File.{GateRecord}
+use Rattle.editions.specs.declared.GateRecord.{GateRecord}
 use Rattle.circuit.specs.File.{faninAt}
 use Rattle.evaluation.specs.declared.rows.Rule.{Rule}
 use Rattle.method.specs.Layout.{firstFrame, frameCount, partOf}

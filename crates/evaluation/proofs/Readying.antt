@@ -23,7 +23,7 @@ use Rattle.method.specs.Areas.{areas}
 use Rattle.method.specs.Values.{netCount}
 use Rattle.method.specs.Layout.{laid, firstFrame, frameCount, partOf, allTimes, allFanins}
 use Rattle.method.proofs.Laying.{pair-first, pair-count, inertial-part, fanin-at, frames-end, fanins-end, fanins-more, frames-below}
-use Rattle.circuit.specs.File.{GateRecord}
+use Rattle.editions.specs.declared.GateRecord.{GateRecord}
 use Rattle.circuit.specs.File.{inputsOf, gatesOf, faninAt, recordOf, circuitOf}
 use Rattle.circuit.specs.Questions.{readOf}
 use Rattle.circuit.proofs.Accepted as reader

@@ -12,7 +12,7 @@ use Rattle.method.specs.Kinds.{ones, odd, gateFn, mostFanins, takes}
 use Rattle.method.specs.Words.{lanes, lane, pack}
 use Rattle.method.specs.Changes.{startOf, changesSuit}
 use Rattle.method.specs.WordLists.{WordLists, Lengths}
-use Rattle.circuit.specs.File.{GateRecord}
+use Rattle.editions.specs.declared.GateRecord.{GateRecord}
 use Rattle.circuit.specs.File.{inputsOf, gatesOf, faninAt}
 use Rattle.circuit.specs.Questions.{readOf}
 use Rattle.circuit.specs.Task.{Task, framesIn, packedIn}

@@ -13,7 +13,7 @@ use Rattle.lists.proofs.Tabled.{from-length, tabulate-at}
 use Rattle.lists.proofs.ByNumber.{getD-any}
 use Rattle.method.specs.Times.{startAndRise}
 use Rattle.method.proofs.Rising.{Rise, Starts, test-starts, starts-drop}
-use Rattle.circuit.specs.File.{GateRecord}
+use Rattle.editions.specs.declared.GateRecord.{GateRecord}
 use Rattle.circuit.specs.File.{faninAt}
 use Rattle.circuit.specs.Limits.{mostTime}
 use Rattle.method.specs.Limits.{mostNetFrames}

@@ -9,7 +9,7 @@ use Rattle.method.specs.Kinds.{mostFanins}
 use Rattle.method.specs.Times.{insertOnce, startAndRise}
 use Rattle.method.specs.Limits.{mostNetFrames}
 use Rattle.method.specs.Layout.{partOf}
-use Rattle.circuit.specs.File.{GateRecord}
+use Rattle.editions.specs.declared.GateRecord.{GateRecord}
 use Rattle.circuit.specs.File.{faninAt}
 use Rattle.circuit.specs.Limits.{mostDelay, mostTime}
 

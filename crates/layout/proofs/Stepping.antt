@@ -16,7 +16,7 @@ use Rattle.method.specs.Frames.{Frames, faninRow, noFrames}
 use Rattle.method.proofs.Rising.{Starts, starts-test, gateTimes-start}
 use Rattle.method.proofs.Planned.{times-start}
 use Rattle.method.proofs.Changes.{Suited, suited}
-use Rattle.circuit.specs.File.{GateRecord}
+use Rattle.editions.specs.declared.GateRecord.{GateRecord}
 use Rattle.circuit.specs.File.{inputsOf, gatesOf, faninAt, recordOf}
 use Rattle.circuit.specs.Limits.{mostTime}
 use Rattle.circuit.specs.Task.{Task, circuitIn, momentsIn}

@@ -12,8 +12,8 @@ use Rattle.lists.specs.Outcome.{outcome}
 use Rattle.lists.proofs.Ladders.{isNumber, numbered, each-append, first, first-here, first-none, firstNo-append, firstNo-behind, asked, ask-yes, ask-no, accepted-none, refused-some}
 use Rattle.lists.proofs.Leaving.{left-other, left-quiet}
 use Rattle.method.specs.WordLists.{WordLists, Lengths, lengthsOf}
-use Rattle.circuit.specs.Questions.{Reading}
-use Rattle.circuit.specs.Questions.readings as R
+use Rattle.editions.specs.declared.Reading.{Reading}
+use Rattle.editions.specs.declared.Reading.the-variants as R
 use Rattle.circuit.specs.Questions as reader
 use Rattle.circuit.specs.Task.{Task, netsIn, framesIn}
 use Rattle.circuit.proofs.Parts.{circuit-inputs, gates-length}

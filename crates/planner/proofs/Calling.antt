@@ -14,8 +14,8 @@ use Rattle.lists.proofs.Choices.{and-left, and-right}
 use Rattle.lists.proofs.Ladders.{isNumber, numbered, each-append, first, first-here, first-none, firstNo-append, asked, ask-yes, ask-no, accepted-none, refused-some, unless-none, unless-some}
 use Rattle.lists.proofs.Leaving.{left-other, left-quiet, accepted-left}
 use Rattle.circuit.specs.File.{inputsOf, gatesOf}
-use Rattle.circuit.specs.Questions.{Reading}
-use Rattle.circuit.specs.Questions.readings as R
+use Rattle.editions.specs.declared.Reading.{Reading}
+use Rattle.editions.specs.declared.Reading.the-variants as R
 use Rattle.circuit.specs.Questions as reader
 use Rattle.circuit.specs.Task.{Task, circuitIn, momentsIn, framesIn}
 use Rattle.method.specs.Changes.{changesSuit}

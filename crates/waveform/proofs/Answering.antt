@@ -24,8 +24,8 @@ use Rattle.method.specs.Once.{framesOnce, ones, OldRules}
 use Rattle.method.specs.WordLists.{WordLists, Lengths, wordLists, lengthsOf}
 use Rattle.circuit.specs.File.{inputsOf, circuitOf}
 use Rattle.circuit.specs.Limits.{mostInputs, mostGates}
-use Rattle.circuit.specs.Questions.{Reading}
-use Rattle.circuit.specs.Questions.readings as R
+use Rattle.editions.specs.declared.Reading.{Reading}
+use Rattle.editions.specs.declared.Reading.the-variants as R
 use Rattle.circuit.specs.Questions as reader
 use Rattle.circuit.specs.Task.{Task, momentsIn, netsIn, framesIn}
 use Rattle.circuit.proofs.Gated.{questions-numbered}

@@ -2,7 +2,7 @@
 -- Assumes nothing.
 use native.Mathlib.Omega.{arith}
 use denote.Ref.{now}
-use Rattle.circuit.specs.File.{GateRecord}
+use Rattle.editions.specs.declared.GateRecord.{GateRecord}
 use Rattle.circuit.specs.Task.{taskOf}
 use Rattle.method.specs.Areas.{areas}
 use Rattle.layout.proofs.Stepping.{Step, step, reached-now, reached-many}
