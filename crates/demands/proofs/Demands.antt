@@ -12,10 +12,11 @@ use Rattle.method.proofs.Changes.{suited}
 use Rattle.method.proofs.Netwise.{net-by-net}
 use Rattle.method.specs.WordLists.{WordLists, lengthsOf}
 use Rattle.circuit.specs.File.{inputsOf, circuitOf}
+use Rattle.editions.specs.Questions as editions
 use Rattle.circuit.specs.Questions as circuit
 use Rattle.circuit.specs.Task.{Task, netsIn, framesIn}
-use Rattle.circuit.proofs.Gated.{questions-numbered}
-use Rattle.circuit.proofs.Faithful.{faithful}
+use Rattle.circuit.proofs.Present.{questions-numbered}
+use Rattle.editions.proofs.Faithful.{present-faithful}
 use Rattle.circuit.proofs.Bounded.{no-feedback}
 use Rattle.method.specs.Sums.{totalsOf}
 use Rattle.limiting.proofs.Last.{full-limited}
@@ -56,7 +57,7 @@ mark-as-run task limit w a list y =
     ap (λ (n : ℕ). runLeft n task w a) (ladder-run task limit (lengthsOf w) a _ y)
 
 demand-1 : Demand1
-unfolding circuit.readOf planOf runOf markOf levelOf countOf
+unfolding editions.readOf planOf runOf markOf levelOf countOf
 demand-1 =
     record {
       read = λ file. answered (circuit.questions file) (questions-numbered file) (circuit.inputsAndGatesOf file);
@@ -78,10 +79,10 @@ demand-1 =
 -- ---- demand 2
 
 demand-2-method : Demand2Method
-unfolding circuit.inputsAndGatesOf
+unfolding editions.inputsAndGatesOf
 demand-2-method =
     record {
-      every-net = λ file s e. let nets = net-by-net (circuitOf file) in (nets .0, nets .1 (no-feedback (circuitOf file) (faithful .within file s e)));
+      every-net = λ file s e. let nets = net-by-net (circuitOf file) in (nets .0, nets .1 (no-feedback (circuitOf file) (present-faithful .within file s e)));
       plan-read = λ task limit entry left totals e. accepted-read task limit entry e;
       run-read = λ task w left r. held task w (engine-ran task w r) .read;
       plan-ordered = λ task limit entry left totals e. suited (inputsOf (task .file)) (task .schedule) (accepted-timed task limit entry e) .ordered;

@@ -19,7 +19,7 @@ use Rattle.method.specs.WordLists.{WordLists, lengthsOf}
 use Rattle.circuit.specs.File.{inputsOf}
 use Rattle.circuit.specs.Questions as reader
 use Rattle.circuit.specs.Task.{Task, netsIn, framesIn}
-use Rattle.circuit.proofs.Gated.{questions-numbered}
+use Rattle.circuit.proofs.Present.{questions-numbered}
 use Rattle.limiting.specs.Questions.{lastQuestions}
 use Rattle.limiting.proofs.Last.{last-yes, last-none, limit-within, within-limited, full-limited}
 use Rattle.planner.specs.Questions as planner

@@ -16,7 +16,7 @@ use Rattle.method.specs.Kinds.{mostFanins}
 use Rattle.method.specs.Circuit.{Gate, Circuit}
 use Rattle.method.proofs.Taking.{takes-range}
 use Rattle.editions.specs.File.{inputsOf, gatesOf, headLength, lengthOf, recordHead, recordLength}
-use Rattle.editions.specs.Limits.{delaysSuit, GateWithin, GatesWithin, Within, Writable}
+use Rattle.editions.specs.Limits.{delaysSuit, GateWithin, GatesWithin, Within, delayRange, Writable}
 use Rattle.editions.specs.Questions.{fills, lengthSuits}
 use Rattle.editions.specs.Encode.{twoBytes, kindNumber, encodeDelay, encodeHead, encodeGate, encodePairs, encode}
 use Rattle.editions.specs.Faithful.{Bytes}
@@ -122,7 +122,7 @@ module _ (ed : Edition) where
   head-most-by true = omega arith
   head-most-by false = omega arith
 
-  head-most : recordHead ed ≤ 5
+  pub head-most : recordHead ed ≤ 5
   unfolding delayBytes
   head-most = omega (arith, head-most-by (ed .wide))
 
@@ -132,7 +132,7 @@ module _ (ed : Edition) where
 
   module _ (fit : Writable ed) where
     bytes-delay : (d : ℕ) → d ≤ ed .most → AllBytes (encodeDelay ed d)
-    unfolding encodeDelay
+    unfolding encodeDelay delayRange
     bytes-delay d h = bytes-delay-by (ed .wide) d (omega (arith, fit .delays))
 
     bytes-head : (net : ℕ) (g : Gate) → GateWithin ed net g → AllBytes (encodeHead ed (g .kind) (g .delay) (g .inertial))

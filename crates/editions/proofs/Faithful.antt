@@ -18,7 +18,7 @@ use Rattle.lists.proofs.Standing.{stands-append, stands-whole}
 use Rattle.method.specs.Kinds.{takes}
 use Rattle.method.specs.Circuit.{Circuit}
 use Rattle.editions.specs.File.{inputsOf, gatesOf, headLength, offsetOf, lengthOf, recordHead, recordLength, kindByte, delayOf, inertialOf, entriesOf, faninsOf, kindOf, gateOf, circuitOf}
-use Rattle.editions.specs.Limits.{mostInputs, delaysSuit, GateWithin, GatesWithin, Within, Writable}
+use Rattle.editions.specs.Limits.{mostInputs, delaysSuit, GateWithin, GatesWithin, Within, delayRange, Writable}
 use Rattle.editions.specs.Questions.{fills, lengthSuits, InputsAndGates, inputsAndGatesOf, readOf}
 use Rattle.editions.specs.Encode.{twoBytes, encodeGate, encodePairs, encode}
 use Rattle.editions.specs.Faithful.{Bytes, inputsAndGatesIn, Faithful, BothFaithful}
@@ -101,9 +101,9 @@ module _ (ed : Edition) where
     gates-within (suc n) j g =
         (gate-within j (g j (omega arith) (omega arith)), rw (← add-suc (inputsOf ed s) j) (gates-within n (suc j) (λ k a b. g k (omega arith) (omega arith))))
 
-    within : (z : InputsAndGates) → readOf ed s ≡ accepted z → Within ed (circuitOf ed s)
+    pub accepted-within : (z : InputsAndGates) → readOf ed s ≡ accepted z → Within ed (circuitOf ed s)
     unfolding circuitOf
-    within z e =
+    accepted-within z e =
         let p = passed ed s z e in
         record {
           inputs-least = counted ed s (p .head) .inputs-least;
@@ -140,21 +140,29 @@ module _ (ed : Edition) where
         accepts = accepts;
         means = λ c l. means c;
         answers = answers;
-        within = within;
+        within = accepted-within;
         written = written;
         exactly = λ s b. (
-          λ a. (circuitOf ed s, within s (a .0) (a .1), written s (a .0) b (a .1)),
+          λ a. (circuitOf ed s, accepted-within s (a .0) (a .1), written s (a .0) b (a .1)),
           λ c. (inputsAndGatesIn (c .0), rw (← c .2) (accepts (c .0) (c .1))),
         );
       }
 
 -- ---- the two editions
 
+pub former-writable : Writable former
+unfolding delayRange
+former-writable = record { counts = omega arith; delays = omega arith }
+
+pub present-writable : Writable present
+unfolding delayRange
+present-writable = record { counts = omega arith; delays = omega arith }
+
 pub former-faithful : Faithful former
-former-faithful = faithful former (record { counts = omega arith; delays = omega arith })
+former-faithful = faithful former former-writable
 
 pub present-faithful : Faithful present
-present-faithful = faithful present (record { counts = omega arith; delays = omega arith })
+present-faithful = faithful present present-writable
 
 between-out : (a b n : ℕ) → (a ≤ n → n ≤ b → ⊥) → between a b n ≡ false
 between-out a b n h =

@@ -40,7 +40,11 @@ module _ (e : Edition) where
     pub gates-most : length (c .gates) ≤ mostGates
     pub gates-within : GatesWithin (c .inputs) (c .gates)
 
+-- how many numbers the bytes of a delay can hold
+unfoldable pub delayRange : Edition → ℕ
+delayRange e = cond (e .wide) 65536 256
+
 -- an edition whose numbers fit where it writes them
 pub record Writable (e : Edition) : Type 0 where
   pub counts : mostInputs + e .added < 65536
-  pub delays : e .most < cond (e .wide) 65536 256
+  pub delays : e .most < delayRange e

@@ -16,6 +16,7 @@ use Rattle.lists.proofs.Ladders.{first-none, unless-none}
 use Rattle.lists.proofs.Leaving.{left-none, accepted-left}
 use Rattle.method.specs.WordLists.{WordLists, Lengths, lengthsOf}
 use Rattle.circuit.specs.File.{inputsOf, gatesOf}
+use Rattle.editions.specs.Questions as editions
 use Rattle.circuit.specs.Questions as reader
 use Rattle.circuit.specs.Task.{Task, circuitIn, momentsIn, framesIn, allPackedIn}
 use Rattle.method.specs.Changes.{changesSuit}
@@ -47,7 +48,7 @@ module _ (task : Task) (limit : ℕ) (l : Lengths) (a : Areas) (e : firstNo (que
   yes-all = passed task l a (parts .0)
 
   file-read : reader.readOf (task .file) ≡ accepted (record { inputs = inputsOf (task .file); gates = gatesOf (task .file) })
-  unfolding reader.readOf reader.inputsAndGatesOf
+  unfolding editions.readOf editions.inputsAndGatesOf
   file-read = unless-none (firstNo (reader.questions (task .file))) (reader.inputsAndGatesOf (task .file)) (yes-all .reads)
 
   plan-fit : fits (framesIn task) ≡ true

@@ -16,7 +16,7 @@ use Rattle.method.specs.WordLists.{WordLists, Lengths, lengthsOf}
 use Rattle.circuit.specs.File.{inputsOf}
 use Rattle.circuit.specs.Questions as reader
 use Rattle.circuit.specs.Task.{Task, framesIn, allPackedIn}
-use Rattle.circuit.proofs.Gated.{questions-quiet}
+use Rattle.circuit.proofs.Present.{questions-quiet}
 use Rattle.method.specs.declared.Totals.{Totals}
 use Rattle.method.specs.Sums.{totalsOf}
 use Rattle.limiting.specs.declared.Planning.the-variants as Q

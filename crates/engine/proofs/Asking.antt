@@ -16,9 +16,10 @@ use Rattle.method.specs.WordLists.{Lengths}
 use Rattle.circuit.specs.File.{inputsOf, gatesOf}
 use Rattle.editions.specs.declared.Reading.{Reading}
 use Rattle.editions.specs.declared.Reading.the-variants as R
+use Rattle.editions.specs.Questions as editions
 use Rattle.circuit.specs.Questions as reader
 use Rattle.circuit.specs.Task.{Task}
-use Rattle.circuit.proofs.Gated.{questions-numbered}
+use Rattle.circuit.proofs.Present.{questions-numbered}
 use Rattle.method.specs.Areas as planner
 use Rattle.planner.specs.Questions as plan
 use Rattle.engine.specs.Areas.{Areas, areas}
@@ -76,7 +77,7 @@ module _ (task : Task) (l : Lengths) (a : Areas) where
 
   module _ {r : Reading} (f : reader.onPaper r ≡ reader.readOf (task .file)) where
     pub read-no : {n : ℕ} → r ≡ R.Refused n → reader.onPaper (R.Refused n) ≡ questionsOf task l a
-    unfolding reader.onPaper reader.readOf
+    unfolding reader.onPaper editions.readOf
     read-no {n} e =
         let g : unless (firstNo (reader.questions (task .file))) (reader.inputsAndGatesOf (task .file)) ≡ refused n = sym f ∙ rw e in
         let q = refused-some (firstNo (reader.questions (task .file))) (reader.inputsAndGatesOf (task .file)) g in
@@ -88,7 +89,7 @@ module _ (task : Task) (l : Lengths) (a : Areas) where
       answered = reading-accepted (task .file) f e
 
       own-is : n ≡ firstNo (firstQuestions task l a)
-      unfolding reader.readOf
+      unfolding editions.readOf
       own-is =
           let q : firstNo (reader.questions (task .file)) ≡ 0 = accepted-none (firstNo (reader.questions (task .file))) (reader.inputsAndGatesOf (task .file)) answered .0 in
           is ∙ rw (inputs-are (task .file) answered) (sym (joined ∙ rw q))
@@ -97,7 +98,7 @@ module _ (task : Task) (l : Lengths) (a : Areas) where
       own-no some = refusal own-is some
 
       pub own-none : n ≡ 0 → reader.onPaper (R.Accepted inputs gates) ≡ questionsOf task l a
-      unfolding questionsOf reader.onPaper reader.inputsAndGatesOf
+      unfolding questionsOf reader.onPaper editions.inputsAndGatesOf
       own-none z = sym (unless-none _ (reader.inputsAndGatesOf (task .file)) (sym own-is ∙ z) ∙ rw (← inputs-are (task .file) answered, ← gates-are (task .file) answered))
 
   -- what their answer says
@@ -118,11 +119,11 @@ module _ (task : Task) (l : Lengths) (a : Areas) where
       asked-none = yes .0
 
       pub asked-inputs : inputs ≡ inputsOf (task .file)
-      unfolding reader.inputsAndGatesOf
+      unfolding editions.inputsAndGatesOf
       asked-inputs = sym (ap (λ (s : reader.InputsAndGates). s .inputs) (yes .1))
 
       pub asked-gates : gates ≡ gatesOf (task .file)
-      unfolding reader.inputsAndGatesOf
+      unfolding editions.inputsAndGatesOf
       asked-gates = sym (ap (λ (s : reader.InputsAndGates). s .gates) (yes .1))
 
 -- ---- all answered yes
@@ -156,7 +157,7 @@ passed task l a h =
 -- so a run may follow
 pub asked-yes : (task : Task) (l : Lengths) (a : Areas) {r : Reading} → reader.onPaper r ≡ questionsOf task l a → {inputs gates : ℕ} → r ≡ R.Accepted inputs gates
     → Asked task l a × (inputs ≡ inputsOf (task .file)) × (gates ≡ gatesOf (task .file))
-unfolding reader.readOf reader.inputsAndGatesOf
+unfolding editions.readOf editions.inputsAndGatesOf
 asked-yes task l a f e =
     let z = asked-none task l a f e in
     (record { read = unless-none _ (reader.inputsAndGatesOf (task .file)) (passed task l a z .reads); none = z }, asked-inputs task l a f e, asked-gates task l a f e)

@@ -26,8 +26,9 @@ use Rattle.method.proofs.Laying.{pair-first, pair-count, inertial-part, fanin-a
 use Rattle.editions.specs.declared.GateRecord.{GateRecord}
 use Rattle.circuit.specs.File.{inputsOf, gatesOf, faninAt, recordOf, circuitOf}
 use Rattle.circuit.specs.Questions.{readOf}
-use Rattle.circuit.proofs.Accepted as reader
-use Rattle.circuit.proofs.Faithful.{gate-within}
+use Rattle.editions.specs.Edition.{present}
+use Rattle.editions.proofs.Accepted as reader
+use Rattle.editions.proofs.Faithful.{gate-within}
 use Rattle.circuit.proofs.Parts.{gates-length, gateFrom, gate-from, RecordWithin, circuit-inputs, within, gate-read}
 use Rattle.evaluation.specs.Steps.{target, sourceAt, basesOf, Ready}
 
@@ -97,7 +98,7 @@ module _ {file : List ℕ} {near : ℕ → ℕ} {fs : List Frames} {d i f : List
 
   taken : takes (g .kind) (g .entries) ≡ true
   taken =
-      let own-within = gate-within file j (reader.passed file _ (x .read) .gate j h) in
+      let own-within = gate-within present file j (reader.passed present file _ (x .read) .gate j h) in
       let e : takes (g .kind) (length (tabulate (g .entries) (faninAt file (g .list)))) ≡ true = rw (gate-from file j) at (own-within .entries) in
       rw (from-length (g .entries) 0 (faninAt file (g .list))) at e
 

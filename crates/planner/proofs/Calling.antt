@@ -16,10 +16,11 @@ use Rattle.lists.proofs.Leaving.{left-other, left-quiet, accepted-left}
 use Rattle.circuit.specs.File.{inputsOf, gatesOf}
 use Rattle.editions.specs.declared.Reading.{Reading}
 use Rattle.editions.specs.declared.Reading.the-variants as R
+use Rattle.editions.specs.Questions as editions
 use Rattle.circuit.specs.Questions as reader
 use Rattle.circuit.specs.Task.{Task, circuitIn, momentsIn, framesIn}
 use Rattle.method.specs.Changes.{changesSuit}
-use Rattle.circuit.proofs.Gated.{questions-quiet, questions-numbered}
+use Rattle.circuit.proofs.Present.{questions-quiet, questions-numbered}
 use Rattle.circuit.proofs.Parts.{gates-length, inputs-are, gates-are, few, reading-accepted}
 use Rattle.method.specs.declared.Totals.{Totals}
 use Rattle.limiting.specs.declared.Planning.the-variants as Q
@@ -146,7 +147,7 @@ module _ (task : Task) (limit : ℕ) (a : Areas) where
     accepted-timed = timed .0
 
     pub accepted-read : reader.readOf (task .file) ≡ accepted (record { inputs = inputsOf (task .file); gates = gatesOf (task .file) })
-    unfolding reader.readOf reader.inputsAndGatesOf
+    unfolding editions.readOf editions.inputsAndGatesOf
     accepted-read = unless-none (firstNo (reader.questions (task .file))) (reader.inputsAndGatesOf (task .file)) (parts .0)
 
     pub accepted-kept : b ≡ laid (framesIn task) b
@@ -158,7 +159,7 @@ module _ (task : Task) (limit : ℕ) (a : Areas) where
   module _ {r : Reading} (f : reader.onPaper r ≡ reader.readOf (task .file)) where
     -- 1 to 9
     pub plan-read : {n : ℕ} → r ≡ R.Refused n → outcome (onPaper (Q.Refused n)) a ≡ planOf task limit a
-    unfolding reader.onPaper reader.readOf
+    unfolding reader.onPaper editions.readOf
     plan-read {n} e =
         let g : unless (firstNo (reader.questions (task .file))) (reader.inputsAndGatesOf (task .file)) ≡ refused n = sym f ∙ rw e in
         let q = refused-some (firstNo (reader.questions (task .file))) (reader.inputsAndGatesOf (task .file)) g in
@@ -170,7 +171,7 @@ module _ (task : Task) (limit : ℕ) (a : Areas) where
       answered = reading-accepted (task .file) f e
 
       rest : firstNo (questions task limit a) ≡ firstNo (ownQuestions task limit a)
-      unfolding reader.readOf
+      unfolding editions.readOf
       rest =
           let q : firstNo (reader.questions (task .file)) ≡ 0 = accepted-none (firstNo (reader.questions (task .file))) (reader.inputsAndGatesOf (task .file)) answered .0 in
           joined ∙ rw q

@@ -28,8 +28,10 @@ use Rattle.editions.specs.declared.Reading.{Reading}
 use Rattle.editions.specs.declared.Reading.the-variants as R
 use Rattle.circuit.specs.Questions as reader
 use Rattle.circuit.specs.Task.{Task, momentsIn, netsIn, framesIn}
-use Rattle.circuit.proofs.Gated.{questions-numbered}
-use Rattle.circuit.proofs.Accepted.{Head, passed}
+use Rattle.circuit.proofs.Present.{questions-numbered}
+use Rattle.editions.specs.Edition.{present}
+use Rattle.editions.specs.Questions as editions
+use Rattle.editions.proofs.Accepted.{Head, Counted, counted, passed}
 use Rattle.circuit.proofs.Parts.{circuit-inputs, gates-length, reading-accepted, inputs-are, gates-are, few}
 use Rattle.limiting.specs.declared.Planning.{Planning}
 use Rattle.limiting.specs.declared.Planning.the-variants as Q
@@ -148,14 +150,17 @@ module _ (file part : List ℕ) where
       (λ e. and-both _ _ (eq-eqb each (inputsOf file) (list-exact n (inputsOf file) l (eqb-true n (16 * inputsOf file) e))) refl))
 
   module _ (pass : firstNo (reader.questions file) ≡ 0) where
-    file-head : Head file
-    unfolding reader.readOf
-    file-head = passed file (reader.inputsAndGatesOf file) (unless-none (firstNo (reader.questions file)) (reader.inputsAndGatesOf file) pass) .head
+    file-head : Head present file
+    unfolding editions.readOf
+    file-head = passed present file (reader.inputsAndGatesOf file) (unless-none (firstNo (reader.questions file)) (reader.inputsAndGatesOf file) pass) .head
+
+    file-counted : Counted present file
+    file-counted = counted present file file-head
 
     -- where the part has the words, there is a count and a time of 1 for each input, and the old rules hold
     module _ (y : eqb n (16 * inputsOf file) ≡ true) where
       each-input : each ≡ inputsOf file
-      each-input = list-exact n (inputsOf file) (file-head .inputs-most) (eqb-true n (16 * inputsOf file) y)
+      each-input = list-exact n (inputsOf file) (file-counted .inputs-most) (eqb-true n (16 * inputsOf file) y)
 
       timed : changesSuit (inputsOf file) (ones each) ≡ true
       timed = rw (← each-input) (ones-suit each)
@@ -199,7 +204,7 @@ module _ (file part : List ℕ) where
 
     same-rest : (m : ℕ) → firstNo (reader.questions file) ≡ m → first m (firstNo own) ≡ first m (firstNo rest)
     same-rest zero e =
-        let h = file-head e in
+        let h = file-counted e in
         ask-yes (engine.areasSuit a) 10 _ suit
         ∙ ap (λ (b : Bool). firstNo ((b orElse 11) ∷ behind)) (same-words (h .inputs-least) (h .inputs-most))
         ∙ same-behind e
@@ -225,11 +230,12 @@ module _ (file part : List ℕ) where
     lines-fit : (w : WordLists) → length (lines c w) ≤ bufferLength
     lines-fit w =
         let h = file-head (both .0) in
+        let i = file-counted (both .0) in
         omega (
           arith,
           lines-length c w,
           fits-total (framesOnce c) fit,
-          h .inputs-most,
+          i .inputs-most,
           h .gates-most,
           circuit-inputs file,
           gates-length file,

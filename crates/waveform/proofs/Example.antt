@@ -11,9 +11,10 @@ use Rattle.method.specs.Traces.{rawValue, gateTrace}
 use Rattle.method.specs.Once.{framesOnce, tracesOnce}
 use Rattle.method.specs.Words.{lane}
 use Rattle.numbers.specs.Numbers.{numberAt, wordAt}
-use Rattle.circuit.specs.File.{faninsOf, kindOf, gateOf, circuitOf}
-use Rattle.circuit.specs.Limits.{delaysSuit}
-use Rattle.circuit.specs.Questions as reader
+use Rattle.editions.specs.Edition.{delayBytes}
+use Rattle.editions.specs.File.{inputsOf, delayAt, faninsOf, kindOf, gateOf, circuitOf}
+use Rattle.editions.specs.Limits.{delaysSuit}
+use Rattle.editions.specs.Questions as reader
 use Rattle.method.specs.Sums.{fits}
 use Rattle.waveform.specs.Input.{whole, filePart, wordPart, wordsFrom, questions}
 use Rattle.text.specs.Text.{digitAt, decimal, frameText}
@@ -22,5 +23,5 @@ use Rattle.waveform.specs.Wave.{answerText, textOf}
 use Rattle.waveform.specs.Example.{exampleInput, exampleText, Shown}
 
 pub shown : Shown
-unfolding exampleInput exampleText textOf answerText whole filePart wordPart questions wordsFrom wordAt numberAt firstNo reader.questions reader.headQuestions reader.fills reader.gateQuestions reader.lengthSuits delaysSuit takes kindOf allBelow faninsOf gateOf circuitOf fits flatten tabulateFrom flatMap zipWith framesOnce gateFn gateTimes framesWith gateFrames rawValue gateTrace tracesOnce lane lines line frameText decimal digitAt
+unfolding exampleInput exampleText textOf answerText whole filePart wordPart questions wordsFrom wordAt numberAt firstNo reader.questions reader.headQuestions reader.fills reader.gateQuestions reader.lengthSuits delaysSuit takes inputsOf delayBytes delayAt kindOf allBelow faninsOf gateOf circuitOf fits flatten tabulateFrom flatMap zipWith framesOnce gateFn gateTimes framesWith gateFrames rawValue gateTrace tracesOnce lane lines line frameText decimal digitAt
 shown = refl

@@ -1,4 +1,4 @@
--- The example of document 01, byte by byte: what goes in, and what is printed.
+-- The example of document 01, byte by byte: what goes in, with the circuit in the present edition, and what is printed.
 use Prim.Native.Nat.{ℕ}
 use mathlib.Core.Path.{_≡_}
 use mathlib.Core.List.{List, [], _∷_, _++_}
@@ -7,7 +7,7 @@ use Rattle.waveform.specs.Wave.{textOf}
 
 unfoldable pub exampleInput : List ℕ
 exampleInput =
-    24 ∷ 0 ∷ 1 ∷ 0 ∷ 2 ∷ 0 ∷ 12 ∷ 0 ∷ 5 ∷ 0 ∷ 17 ∷ 0 ∷ 7 ∷ 0 ∷ 1 ∷ 2 ∷ 0 ∷ 0 ∷ 0 ∷ 2 ∷ 1 ∷ 1 ∷ 0 ∷ 0 ∷ 1 ∷ 0 ∷ []
+    28 ∷ 0 ∷ 1 ∷ 1 ∷ 2 ∷ 0 ∷ 12 ∷ 0 ∷ 7 ∷ 0 ∷ 19 ∷ 0 ∷ 9 ∷ 0 ∷ 1 ∷ 2 ∷ 0 ∷ 0 ∷ 0 ∷ 0 ∷ 0 ∷ 2 ∷ 1 ∷ 0 ∷ 1 ∷ 0 ∷ 0 ∷ 0 ∷ 1 ∷ 0 ∷ []
     ++ replicate 8 0 ++ 1 ∷ replicate 7 0
 
 -- 0 0=0 1=1

@@ -1,0 +1,135 @@
+-- The ladder's cases in their order, and what an accepted file gives the functions that write it anew.
+-- Assumes nothing.
+use Prim.Native.Nat.{ℕ, zero, suc, _+_, _<_, _≤_}
+use mathlib.Core.Path.{_≡_, refl, sym, ap, _∙_}
+use mathlib.Core.Bool.{Bool, true, false, not, _&&_}
+use mathlib.Core.List.{List, [], _∷_, _++_}
+use native.Mathlib.Omega.{arith}
+use lib.ListN.{length}
+use lib.Dec.{leb, eqb}
+use borrow.Author.Tests.{eq-eqb, ne-eqb, leb-true, le-leb, not-true, not-false}
+use Rattle.lists.specs.Ladder.{Question, _orElse_, firstNo, accepted, refused}
+use Rattle.lists.specs.Tables.{tabulate}
+use Rattle.lists.specs.Areas.{padded}
+use Rattle.lists.specs.Outcome.{outcome}
+use Rattle.lists.proofs.Choices.{and-left, and-right, and-both}
+use Rattle.lists.proofs.Ladders.{ask-yes, ask-no, all-asked, firstNo-append, first, first-here, accepted-none, refused-some}
+use Rattle.lists.proofs.Tabled.{from-length, every-from}
+use Rattle.method.specs.Kinds.{mostFanins}
+use Rattle.method.specs.Circuit.{Gate, Circuit}
+use Rattle.method.proofs.Taking.{takes-range}
+use Rattle.editions.specs.declared.Edition.{Edition}
+use Rattle.editions.specs.declared.Reading.{Reading}
+use Rattle.editions.specs.declared.Reading.the-variants as R
+use Rattle.editions.specs.File.{inputsOf, gatesOf, delayOf, inertialOf, entriesOf, gateOf, circuitOf}
+use Rattle.editions.specs.Limits.{mostInputs, delayRange, Writable, GatesWithin, Within}
+use Rattle.editions.specs.Questions as reader
+use Rattle.editions.specs.Encode.{encode}
+use Rattle.editions.proofs.Gated.{questions-numbered}
+use Rattle.editions.proofs.Accepted.{Passed, passed, counted}
+use Rattle.editions.proofs.Faithful.{fanins-length, gate-within, accepted-within}
+use Rattle.filing.specs.Filed.{areaLength, areaQuestion, filedBy}
+use Rattle.filing.proofs.Filed.{file-most, filed-no, filed-yes}
+use Rattle.converter.specs.declared.Conversion.the-variants as C
+use Rattle.converter.specs.Convert.{delaysUpTo, onPaper}
+use Rattle.converter.specs.Steps.{questionsBy, convertedBy, Fit, Fits, Ready, WroteFile}
+
+-- ---- delays
+
+low-at : (ed : Edition) (file : List ℕ) (most n : ℕ) → delaysUpTo most (tabulate n (gateOf ed file)) ≡ true → (j : ℕ) → j < n → (delayOf ed file j ≤ most) × (inertialOf ed file j ≤ most)
+unfolding delaysUpTo gateOf
+low-at ed file most n e j l =
+    let b = every-from (λ (g : Gate). leb (g .delay) most && leb (g .inertial) most) (gateOf ed file) n 0 e j (omega arith) (omega arith) in
+    (
+      leb-true (delayOf ed file j) most (and-left (leb (delayOf ed file j) most) (leb (inertialOf ed file j) most) b),
+      leb-true (inertialOf ed file j) most (and-right (leb (delayOf ed file j) most) (leb (inertialOf ed file j) most) b),
+    )
+
+module _ (from to : Edition) (file area : List ℕ) where
+  pub gates-listed : circuitOf from file .gates ≡ tabulate (gatesOf file) (gateOf from file)
+  unfolding circuitOf
+  gates-listed = refl
+
+  rest : List Question
+  rest = areaQuestion area ∷ (delaysUpTo (to .most) (circuitOf from file .gates) orElse 23) ∷ []
+
+  pub joined : firstNo (questionsBy from to file area) ≡ first (firstNo (reader.questions from file)) (firstNo rest)
+  unfolding questionsBy rest
+  joined = firstNo-append (reader.questions from file) rest (questions-numbered from file)
+
+  -- the reader's own number
+  module _ {r : Reading} (f : reader.onPaper r ≡ reader.readOf from file) where
+    pub refused-read : {number : ℕ} → r ≡ R.Refused number → outcome (onPaper (C.Refused number)) area ≡ convertedBy from to file area
+    unfolding reader.onPaper reader.readOf convertedBy onPaper
+    refused-read {number} e =
+        let q = refused-some (firstNo (reader.questions from file)) (reader.inputsAndGatesOf from file) (sym f ∙ ap reader.onPaper e) in
+        let some : number ≡ 0 → ⊥ = λ z. omega (arith, q .1, z) in
+        filed-no (questionsBy from to file area) _ area (joined ∙ rw (q .0) (first-here number _ some)) some
+
+    module _ {inputs gates : ℕ} (e : r ≡ R.Accepted inputs gates) where
+      pub read-yes : reader.readOf from file ≡ accepted (record { inputs = inputs; gates = gates })
+      unfolding reader.onPaper
+      read-yes = sym f ∙ ap reader.onPaper e
+
+      all : Passed from file _
+      all = passed from file _ read-yes
+
+      pub inputs-are : inputs ≡ inputsOf from file
+      unfolding reader.inputsAndGatesOf
+      inputs-are = sym (ap (λ (s : reader.InputsAndGates). s .inputs) (all .answers))
+
+      pub gates-are : gates ≡ gatesOf file
+      unfolding reader.inputsAndGatesOf
+      gates-are = sym (ap (λ (s : reader.InputsAndGates). s .gates) (all .answers))
+
+      read-none : firstNo (reader.questions from file) ≡ 0
+      unfolding reader.readOf
+      read-none = accepted-none (firstNo (reader.questions from file)) (reader.inputsAndGatesOf from file) read-yes .0
+
+      joined-rest : firstNo (questionsBy from to file area) ≡ firstNo rest
+      joined-rest = joined ∙ rw read-none
+
+      pub no-10 : (length area ≡ areaLength → ⊥) → outcome (onPaper (C.Refused 10)) area ≡ convertedBy from to file area
+      unfolding convertedBy onPaper rest
+      no-10 n = filed-no (questionsBy from to file area) _ area (joined-rest ∙ ask-no _ _ _ (ne-eqb _ _ n)) (λ z. omega arith)
+
+      module _ (y : length area ≡ areaLength) {b : Bool} (d : b ≡ delaysUpTo (to .most) (tabulate gates (gateOf from file))) where
+        low : delaysUpTo (to .most) (circuitOf from file .gates) ≡ b
+        low = rw (gates-listed, ← gates-are) (sym d)
+
+        past-10 : firstNo (questionsBy from to file area) ≡ firstNo ((delaysUpTo (to .most) (circuitOf from file .gates) orElse 23) ∷ [])
+        unfolding rest
+        past-10 = joined-rest ∙ ask-yes _ _ _ (eq-eqb _ _ y)
+
+        pub no-23 : not b ≡ true → outcome (onPaper (C.Refused 23)) area ≡ convertedBy from to file area
+        unfolding convertedBy onPaper
+        no-23 n = filed-no (questionsBy from to file area) _ area (past-10 ∙ ask-no _ _ _ (low ∙ not-true b n)) (λ z. omega arith)
+
+        module _ (n : not b ≡ false) where
+          each-fit : Writable to → (j : ℕ) → j < gatesOf file → Fit from to file j
+          unfolding gateOf
+          each-fit fit j l =
+              let both = low-at from file (to .most) (gatesOf file) (rw gates-listed at (low ∙ not-false b n)) j l in
+              let own = gate-within from file j (all .gate j l) in
+              record {
+                entries = omega (arith, takes-range _ _ (own .entries) .1, fanins-length from file j);
+                delay = omega (arith, both .0, fit .delays);
+                inertial = omega (arith, both .1, fit .delays);
+              }
+
+          -- what the writing functions ask for
+          pub ready : Writable to → Ready from to file area
+          ready fit =
+              let h = all .head in
+              let w = accepted-within from file _ read-yes in
+              record {
+                gates = record { few = h .gates-most; each = each-fit fit };
+                counts = omega (arith, counted from file h .inputs-most, fit .counts);
+                room = omega (arith, file-most to from (circuitOf from file) w, y);
+                most = omega (arith, y);
+              }
+
+          pub written-all : {end : ℕ} {area′ : List ℕ} → WroteFile from to file area area′ end → outcome (onPaper (C.Written end)) area′ ≡ convertedBy from to file area
+          unfolding convertedBy onPaper
+          written-all w =
+              filed-yes (questionsBy from to file area) _ area (past-10 ∙ ask-yes _ _ _ (low ∙ not-false b n) ∙ all-asked) (w .ends) (w .is)

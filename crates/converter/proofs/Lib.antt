@@ -1,0 +1,3 @@
+-- Laws that belong to no one function.
+pub mod Rewriting
+pub mod Asking
