@@ -19,10 +19,10 @@ pub digit-one : {a b : List ℕ} {i j : ℕ} (power n : ℕ) → power ≤ n →
 unfolding digitAt
 digit-one power n h done = rw (le-leb power n h) done
 
-pub number-put : {o a b c d e : List ℕ} {at i j k l m : ℕ} (n : ℕ) → Wrote o at (digitAt 10000 n) a i → Wrote a i (digitAt 1000 n) b j → Wrote b j (digitAt 100 n) c k
-    → Wrote c k (digitAt 10 n) d l → Wrote d l (glyph (n % 10) ∷ []) e m → Wrote o at (decimal n) e m
+pub number-put : {o a b c d e f g : List ℕ} {at i j k l m p q : ℕ} (n : ℕ) → Wrote o at (digitAt 1000000 n) a i → Wrote a i (digitAt 100000 n) b j → Wrote b j (digitAt 10000 n) c k
+    → Wrote c k (digitAt 1000 n) d l → Wrote d l (digitAt 100 n) e m → Wrote e m (digitAt 10 n) f p → Wrote f p (glyph (n % 10) ∷ []) g q → Wrote o at (decimal n) g q
 unfolding decimal
-number-put n v w x y z = wrote-both v (wrote-both w (wrote-both x (wrote-both y z)))
+number-put n t u v w x y z = wrote-both t (wrote-both u (wrote-both v (wrote-both w (wrote-both x (wrote-both y z)))))
 
 -- a level is the digit 0 or 1
 pub bit-small : (level : Bool) → 48 + boolByte level < 256

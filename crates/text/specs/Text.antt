@@ -27,18 +27,19 @@ abbrev pub digitsFrom : ℕ → ℕ → List ℕ
 digitsFrom zero n = glyph (n % 10) ∷ []
 digitsFrom (suc k) n = digitAt (10 ^ suc k) n ++ digitsFrom k n
 
--- n in decimal, for n below 100,000: a net's number is at most 159, and a time of an accepted circuit at most 8,065
+-- n in decimal, for n below 10,000,000: a net's number is at most 159, and a time of an accepted circuit at most 7,680,255,
+-- which is 255 + 128 × 60,000
 unfoldable pub decimal : ℕ → List ℕ
-decimal n = digitsFrom 4 n
+decimal n = digitsFrom 6 n
 
--- what digits say, read from the left, where `value` was read before them; below 100,000 that is n (`decimal-reads` in
+-- what digits say, read from the left, where `value` was read before them; below 10,000,000 that is n (`decimal-reads` in
 -- `proofs/Reading`)
 abbrev pub readOn : ℕ → List ℕ → ℕ
 readOn value [] = value
 readOn value (x ∷ xs) = readOn (10 * value + (x - 48)) xs
 
 abbrev pub ReadsBack : Type 0
-ReadsBack = (n : ℕ) → n < 100000 → readOn 0 (decimal n) ≡ n
+ReadsBack = (n : ℕ) → n < 10000000 → readOn 0 (decimal n) ≡ n
 
 -- `refused`, a blank, the number, a newline
 abbrev pub refusedWord : List ℕ

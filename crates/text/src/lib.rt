@@ -53,11 +53,13 @@ fn put_digit(output: &mut [u8], at: usize, power: u32, n: u32) -> usize
 pub fn put_number(output: &mut [u8], at: usize, n: u32) -> usize
     ensures { λ r. ⌜ Wrote (now (output .entry)) at (decimal n) (now (output .exit)) r ⌝ }
 {
-    let a = put_digit(output, at, 10000, n);
-    let b = put_digit(output, a, 1000, n);
-    let c = put_digit(output, b, 100, n);
-    let d = put_digit(output, c, 10, n);
-    put(output, d, ZERO + (n % 10) as u8)
+    let a = put_digit(output, at, 1000000, n);
+    let b = put_digit(output, a, 100000, n);
+    let c = put_digit(output, b, 10000, n);
+    let d = put_digit(output, c, 1000, n);
+    let e = put_digit(output, d, 100, n);
+    let f = put_digit(output, e, 10, n);
+    put(output, f, ZERO + (n % 10) as u8)
 }
 
 // A blank and time=level.

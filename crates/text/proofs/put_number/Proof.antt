@@ -17,6 +17,12 @@ put-digit-requires-3 c κs = search needs
 put-digit-requires-4 : tie.Need-put-digit-requires-4
 put-digit-requires-4 c κs = search needs
 
+put-digit-requires-5 : tie.Need-put-digit-requires-5
+put-digit-requires-5 c κs = search needs
+
+put-digit-requires-6 : tie.Need-put-digit-requires-6
+put-digit-requires-6 c κs = search needs
+
 cast-put : tie.Need-cast-put
 cast-put c = search needs
 
@@ -30,7 +36,7 @@ same-length : tie.Need-same-length
 same-length c = search needs
 
 returns : tie.Need-returns
-returns c = number-put _ (c .before .before .before .before .before .before .before .before .before .before .before .before .before .before .before .before .before .before .put-digit .ensures) (c .before .before .before .before .before .before .before .before .before .before .before .before .before .before .put-digit2 .ensures) (c .before .before .before .before .before .before .before .before .before .before .put-digit3 .ensures) (c .before .before .before .before .before .before .put-digit4 .ensures) (c .before .before .put .ensures)
+returns c = number-put _ (c .before .before .before .before .before .before .before .before .before .before .before .before .before .before .before .before .before .before .before .before .before .before .before .before .before .before .put-digit .ensures) (c .before .before .before .before .before .before .before .before .before .before .before .before .before .before .before .before .before .before .before .before .before .before .put-digit2 .ensures) (c .before .before .before .before .before .before .before .before .before .before .before .before .before .before .before .before .before .before .put-digit3 .ensures) (c .before .before .before .before .before .before .before .before .before .before .before .before .before .before .put-digit4 .ensures) (c .before .before .before .before .before .before .before .before .before .before .put-digit5 .ensures) (c .before .before .before .before .before .before .put-digit6 .ensures) (c .before .before .put .ensures)
 
 pub put-number-spec : {M : Type 1} → statement M
 put-number-spec =
@@ -40,6 +46,8 @@ put-number-spec =
     put-digit-requires-2
     put-digit-requires-3
     put-digit-requires-4
+    put-digit-requires-5
+    put-digit-requires-6
     cast-put
     add-put
     put-requires
