@@ -1,7 +1,7 @@
--- How long a text can be: a number has at most five digits, a frame at most eight bytes, a line at most six more.
+-- How long a text can be: a number has at most seven digits, a frame at most ten bytes, a line at most eight more.
 -- `answer-fits` in Answering puts in the limits of an accepted circuit.
 -- Assumes nothing.
-use Prim.Native.Nat.{ℕ, zero, suc, _+_, _*_, _/_, _%_, _≤_}
+use Prim.Native.Nat.{ℕ, zero, suc, _+_, _*_, _/_, _%_, _^_, _≤_}
 use mathlib.Core.Path.{_≡_, sym, ap, _∙_}
 use mathlib.Core.Bool.{Bool, true, false, cond}
 use mathlib.Core.List.{List, [], _∷_, _++_, flatten, flatMap, zipWith}
@@ -19,11 +19,8 @@ use Rattle.method.specs.Once.{framesOnce, timesOnce, laneOnce}
 use Rattle.method.proofs.Laying.{times-next}
 use Rattle.method.proofs.Parts.{nets-count}
 use Rattle.method.proofs.Once.{old-rules, always, always-once}
-use Rattle.text.specs.Text.{glyph, digitAt, decimal, newline, equals, refusal, frameText}
+use Rattle.text.specs.Text.{glyph, digitAt, digitsFrom, decimal, newline, equals, refusal, frameText}
 use Rattle.waveform.specs.Lines.{line, netLine, lines}
-
-both : (xs ys : List ℕ) {m n : ℕ} → length xs ≤ m → length ys ≤ n → length (xs ++ ys) ≤ m + n
-both xs ys h l = omega (arith, length-append xs ys, h, l)
 
 digit-length : (power n : ℕ) → length (digitAt power n) ≤ 1
 unfolding digitAt
@@ -33,38 +30,41 @@ digit-length power n = go (leb power n) (glyph (n / power % 10))
     go true x = omega arith
     go false x = omega arith
 
-decimal-length : (n : ℕ) → length (decimal n) ≤ 5
-unfolding decimal
-decimal-length n =
-    let one : length (glyph (n % 10) ∷ []) ≤ 1 = omega arith in
-    both (digitAt 10000 n) _ (digit-length 10000 n) (both (digitAt 1000 n) _ (digit-length 1000 n) (both (digitAt 100 n) _ (digit-length 100 n) (both (digitAt 10 n) _ (digit-length 10 n) one)))
+digits-length : (k n : ℕ) → length (digitsFrom k n) ≤ suc k
+digits-length zero n = omega arith
+digits-length (suc k) n =
+    omega (arith, length-append (digitAt (10 ^ suc k) n) (digitsFrom k n), digit-length (10 ^ suc k) n, digits-length k n)
 
-pub refusal-length : (n : ℕ) → length (refusal n) ≤ 14
+decimal-length : (n : ℕ) → length (decimal n) ≤ 7
+unfolding decimal
+decimal-length n = digits-length 6 n
+
+pub refusal-length : (n : ℕ) → length (refusal n) ≤ 16
 unfolding refusal
 refusal-length n = omega (arith, length-append (decimal n) (newline ∷ []), decimal-length n)
 
-frame-length : (time : ℕ) (level : Bool) → length (frameText time level) ≤ 8
+frame-length : (time : ℕ) (level : Bool) → length (frameText time level) ≤ 10
 unfolding frameText
 frame-length time level = omega (arith, length-append (decimal time) (equals ∷ glyph (cond level 1 0) ∷ []), decimal-length time)
 
-frames-length : (times : List ℕ) (levels : List Bool) → length (flatten (zipWith frameText times levels)) ≤ 8 * length times
+frames-length : (times : List ℕ) (levels : List Bool) → length (flatten (zipWith frameText times levels)) ≤ 10 * length times
 unfolding flatten zipWith
 frames-length [] levels = omega arith
 frames-length (t ∷ times) [] = omega arith
 frames-length (t ∷ times) (l ∷ levels) = omega (arith, length-append (frameText t l) (flatten (zipWith frameText times levels)), frame-length t l, frames-length times levels)
 
-line-length : (net : ℕ) (times : List ℕ) (levels : List Bool) → length (line net times levels) ≤ 6 + 8 * length times
+line-length : (net : ℕ) (times : List ℕ) (levels : List Bool) → length (line net times levels) ≤ 8 + 10 * length times
 unfolding line
 line-length net times levels =
     let row = flatten (zipWith frameText times levels) in
     omega (arith, length-append (decimal net) (row ++ newline ∷ []), length-append row (newline ∷ []), decimal-length net, frames-length times levels)
 
 module _ (c : Circuit) (w : WordLists) where
-  none : length (flatten (tabulate 0 (netLine c w))) ≤ 6 * 0 + 8 * length (allTimes (take 0 (framesOnce c)))
+  none : length (flatten (tabulate 0 (netLine c w))) ≤ 8 * 0 + 10 * length (allTimes (take 0 (framesOnce c)))
   unfolding tabulateFrom flatten flatMap
   none = omega arith
 
-  some-length : (n : ℕ) → n ≤ length (framesOnce c) → length (flatten (tabulate n (netLine c w))) ≤ 6 * n + 8 * length (allTimes (take n (framesOnce c)))
+  some-length : (n : ℕ) → n ≤ length (framesOnce c) → length (flatten (tabulate n (netLine c w))) ≤ 8 * n + 10 * length (allTimes (take n (framesOnce c)))
   some-length zero h = none
   some-length (suc n) h =
       let f = netLine c w in
@@ -80,7 +80,7 @@ module _ (c : Circuit) (w : WordLists) where
   all-nets : length (framesOnce c) ≡ netCount c
   all-nets = ap length (sym (old-rules c always (always-once (c .inputs)) .same-frames)) ∙ nets-count c always
 
-  pub lines-length : length (lines c w) ≤ 6 * netCount c + 8 * length (allTimes (framesOnce c))
+  pub lines-length : length (lines c w) ≤ 8 * netCount c + 10 * length (allTimes (framesOnce c))
   unfolding lines
   lines-length =
       let all : take (netCount c) (framesOnce c) ≡ framesOnce c = rw (← all-nets) (take-length (framesOnce c)) in

@@ -25,7 +25,7 @@ textOf input = cond (whole input) (answerText (filePart input) (wordPart input))
 
 -- the buffer has exactly this length
 abbrev pub bufferLength : ℕ
-bufferLength = 20000
+bufferLength = 24000
 
 -- on paper: the text's length, or that the buffer has another length
 pub data PrintAnswer : Type 0 where

@@ -10,7 +10,7 @@ use nets::put_answer;
 use text::put_refused;
 
 // The length that the buffer must have. The longest text is shorter.
-pub const BUFFER_LENGTH: usize = 20000;
+pub const BUFFER_LENGTH: usize = 24000;
 
 // What printing answers: the length of the text, or that the buffer has another length than it must have.
 pub enum Printing {
