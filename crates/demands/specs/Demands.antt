@@ -91,7 +91,7 @@ pub record Demand2Method : Type 0 where
   pub run-plan : (task : Task) (w : WordLists) (left : Areas) → Ran task w left → HoldsPlan task (left .plan)
   pub run-values : (task : Task) (w : WordLists) (left : Areas) → Ran task w left
       → left .values ≡ padded (length (left .values)) (allPackedIn task w)
-  -- what Count answers is the number of changes of the lane's own values, and of the machine's level from 1 to 65,535
+  -- what Count answers is the number of changes of the lane's own values, and of the machine's level from 1 to 2^32 - 1
   pub counts : (task : Task) (w : WordLists) (left : Areas) → Ran task w left → (n L : ℕ) → n < netsIn task → L < lanes
       → countIn left n L ≡ accepted (changes (laneValues task w L n))
   pub counts-machine : (task : Task) (w : WordLists) (left : Areas) → Ran task w left → (n L : ℕ) → n < netsIn task → L < lanes
@@ -130,7 +130,8 @@ pub record Demand2Marking : Type 0 where
 -- ---- demand 3
 
 -- "After whatever accepted run, on whatever net, in whichever of the 64 lanes and at whatever point in time from 0 to 65,535
--- you look, the level is that of the time-by-time machine in document 01, run for that lane's pattern pair by itself."
+-- you look, the level is that of the time-by-time machine in document 01, run for that lane's pattern pair by itself." Since
+-- request P10 times reach to 2^32 - 1, 4,294,967,295
 pub record Demand3Level : Type 0 where
   pub level : (task : Task) (w : WordLists) (left : Areas) → Ran task w left
       → (n L t : ℕ) → n < netsIn task → L < lanes → t ≤ lastTime
@@ -159,8 +160,9 @@ pub record TwoRuns (L : ℕ) (task : Task) (w : WordLists) (left : Areas) (task�
   pub words-agree : AgreeIn L (circuitIn task .inputs) (length (task .schedule .times)) w w′
 
 -- "are alike in that lane: the same level on every net at every time from 0 to 65,535, the same transition count of every net,
--- and the same marking." A marking is Mark's answer for a list that passes question 12 and whose records all name that lane,
--- under any limit that passes question 22 there; Mark is lent areas of the right lengths and whatever content
+-- and the same marking." Since request P10 the times reach to 2^32 - 1. A marking is Mark's answer for a list that passes
+-- question 12 and whose records all name that lane, under any limit that passes question 22 there; Mark is lent areas of the
+-- right lengths and whatever content
 pub record Demand3Alike : Type 0 where
   pub level : (L : ℕ) (task : Task) (w : WordLists) (left : Areas) (task′ : Task) (w′ : WordLists) (left′ : Areas)
       → TwoRuns L task w left task′ w′ left′

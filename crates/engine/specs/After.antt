@@ -43,9 +43,9 @@ timesOf a n = partOf (a .plan .directory) (a .plan .times) n
 abbrev pub valuesOf : Areas → ℕ → List ℕ
 valuesOf a n = partOf (a .plan .directory) (a .values) n
 
--- the last time at which a caller can look
+-- the last time at which a caller can look: 2^32 - 1
 abbrev pub lastTime : ℕ
-lastTime = 65535
+lastTime = 4294967295
 
 -- what Level answers of net n in lane L at time t, from these parts; of that the level; and what Count answers of net n in
 -- lane L
@@ -84,15 +84,15 @@ pub record After (task : Task) (w : WordLists) (a : Areas) : Type 0 where
   pub times-are : (n : ℕ) → n < netsIn task → timesOf a n ≡ timesIn task n
   pub values-are : (n : ℕ) → n < netsIn task → valuesOf a n ≡ packedIn task w n
   -- Level answers on these parts, and what it answers is the machine's level, run for the lane's stimuli by themselves; at
-  -- every time t, so at those from 0 to 65,535
+  -- every time t, so at those from 0 to 2^32 - 1
   pub level-is-machine : (n L t : ℕ) → n < netsIn task → L < lanes → levelIn a n L t ≡ accepted (machineIn task w L n t)
   -- and holds from the begin of the frame that Level names to its end
   pub sight-holds : (n L t : ℕ) → n < netsIn task → L < lanes → SightHolds task w a n L t
   -- what is seen of a frame by its number is what Level answers at the frame's own time
   pub frame-is-level : (n L k : ℕ) → n < netsIn task → L < lanes → k < frameCount (a .plan .directory) n
       → sightIn a n L (getD (timesOf a n) k 0) ≡ accepted (frameIn a n L k)
-  -- Count answers the number of changes of the lane's own values, which is the number of times from 1 to 65,535 at which
-  -- the machine's level differs from that one unit earlier
+  -- Count answers the number of changes of the lane's own values, which is the number of times from 1 to 2^32 - 1 at
+  -- which the machine's level differs from that one unit earlier
   pub count-is-own : (n L : ℕ) → n < netsIn task → L < lanes → countIn a n L ≡ accepted (changes (laneValues task w L n))
   pub count-is-machine : (n L : ℕ) → n < netsIn task → L < lanes → countIn a n L ≡ accepted (changedTimes (machineIn task w L n) lastTime)
   -- where Level's answers at t + 1 and at t differ, t + 1 is among the net's entries in the times area
