@@ -50,11 +50,11 @@ module _ (from to : Edition) (file area : List ℕ) where
   unfolding circuitOf
   gates-listed = refl
 
-  rest : List Question
+  abbrev pub rest : List Question
   rest = areaQuestion area ∷ (delaysUpTo (to .most) (circuitOf from file .gates) orElse 23) ∷ []
 
   pub joined : firstNo (questionsBy from to file area) ≡ first (firstNo (reader.questions from file)) (firstNo rest)
-  unfolding questionsBy rest
+  unfolding questionsBy
   joined = firstNo-append (reader.questions from file) rest (questions-numbered from file)
 
   -- the reader's own number
@@ -71,14 +71,14 @@ module _ (from to : Edition) (file area : List ℕ) where
       unfolding reader.onPaper
       read-yes = sym f ∙ ap reader.onPaper e
 
-      all : Passed from file _
+      all : Passed from file (record { inputs = inputs; gates = gates })
       all = passed from file _ read-yes
 
-      pub inputs-are : inputs ≡ inputsOf from file
+      inputs-are : inputs ≡ inputsOf from file
       unfolding reader.inputsAndGatesOf
       inputs-are = sym (ap (λ (s : reader.InputsAndGates). s .inputs) (all .answers))
 
-      pub gates-are : gates ≡ gatesOf file
+      gates-are : gates ≡ gatesOf file
       unfolding reader.inputsAndGatesOf
       gates-are = sym (ap (λ (s : reader.InputsAndGates). s .gates) (all .answers))
 
@@ -90,7 +90,7 @@ module _ (from to : Edition) (file area : List ℕ) where
       joined-rest = joined ∙ rw read-none
 
       pub no-10 : (length area ≡ areaLength → ⊥) → outcome (onPaper (C.Refused 10)) area ≡ convertedBy from to file area
-      unfolding convertedBy onPaper rest
+      unfolding convertedBy onPaper
       no-10 n = filed-no (questionsBy from to file area) _ area (joined-rest ∙ ask-no _ _ _ (ne-eqb _ _ n)) (λ z. omega arith)
 
       module _ (y : length area ≡ areaLength) {b : Bool} (d : b ≡ delaysUpTo (to .most) (tabulate gates (gateOf from file))) where
@@ -98,7 +98,6 @@ module _ (from to : Edition) (file area : List ℕ) where
         low = rw (gates-listed, ← gates-are) (sym d)
 
         past-10 : firstNo (questionsBy from to file area) ≡ firstNo ((delaysUpTo (to .most) (circuitOf from file .gates) orElse 23) ∷ [])
-        unfolding rest
         past-10 = joined-rest ∙ ask-yes _ _ _ (eq-eqb _ _ y)
 
         pub no-23 : not b ≡ true → outcome (onPaper (C.Refused 23)) area ≡ convertedBy from to file area
@@ -117,17 +116,19 @@ module _ (from to : Edition) (file area : List ℕ) where
                 inertial = omega (arith, both .1, fit .delays);
               }
 
-          -- what the writing functions ask for
-          pub ready : Writable to → Ready from to file area
+          -- what the function that writes asks for
+          pub ready : Writable to → Ready from to file area × (inputs ≡ inputsOf from file) × (gates ≡ gatesOf file)
           ready fit =
               let h = all .head in
-              let w = accepted-within from file _ read-yes in
-              record {
-                gates = record { few = h .gates-most; each = each-fit fit };
-                counts = omega (arith, counted from file h .inputs-most, fit .counts);
-                room = omega (arith, file-most to from (circuitOf from file) w, y);
-                most = omega (arith, y);
-              }
+              let w = accepted-within from file _ read-yes in (
+                record {
+                  gates = record { few = h .gates-most; each = each-fit fit };
+                  counts = omega (arith, counted from file h .inputs-most, fit .counts);
+                  room = omega (arith, file-most to from (circuitOf from file) w, y);
+                },
+                inputs-are,
+                gates-are,
+              )
 
           pub written-all : {end : ℕ} {area′ : List ℕ} → WroteFile from to file area area′ end → outcome (onPaper (C.Written end)) area′ ≡ convertedBy from to file area
           unfolding convertedBy onPaper

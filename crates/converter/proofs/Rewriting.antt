@@ -26,7 +26,7 @@ use Rattle.editions.proofs.Faithful.{fanins-length}
 use Rattle.filing.proofs.Putting.{Storing, store-none, store-more, store-all, put-both}
 use Rattle.filing.proofs.Filed.{file-length, filed}
 use Rattle.converter.specs.Convert.{delaysUpTo}
-use Rattle.converter.specs.Steps.{gatesIn, Fit, Fits, Wrote, WroteFile}
+use Rattle.converter.specs.Steps.{gatesIn, Fit, Fits, Ready, Wrote, WroteFile}
 
 -- ---- what is small
 
@@ -39,6 +39,9 @@ head-few ed h = omega (arith, head-most ed, h)
 
 pub some-fit : (from to : Edition) (file : List ℕ) (n : ℕ) → Fits from to file n → {j : ℕ} → j < n → Fits from to file (j + 1)
 some-fit from to file n f l = record { few = omega (arith, f .few); each = λ k h. f .each k (omega arith) }
+
+pub all-fit : (from to : Edition) (file area : List ℕ) → Ready from to file area → {gates : ℕ} → gates ≡ gatesOf file → Fits from to file gates
+all-fit from to file area r g = rw g (r .gates)
 
 pub record-small : (from to : Edition) (file : List ℕ) (j : ℕ) {g : GateRecord} → g ≡ recordOf from file j → Fit from to file j → (g .delay < delayRange to) × (g .inertial < delayRange to)
 unfolding recordOf

@@ -15,7 +15,7 @@ use Rattle.editions.specs.File.{inputsOf, gatesOf, delayOf, inertialOf, entries
 use Rattle.editions.specs.Limits.{mostGates, delayRange}
 use Rattle.editions.specs.Questions as reader
 use Rattle.editions.specs.Encode.{encode}
-use Rattle.filing.specs.Filed.{areaLength, areaQuestion, filedBy}
+use Rattle.filing.specs.Filed.{areaQuestion, filedBy}
 use Rattle.converter.specs.Convert.{delaysUpTo}
 
 -- ---- both ways in one
@@ -49,7 +49,6 @@ pub record Ready (from to : Edition) (file area : List ℕ) : Type 0 where
   pub gates : Fits from to file (gatesOf file)
   pub counts : inputsOf from file + to .added < 65536
   pub room : length (encode to (circuitOf from file)) ≤ length area
-  pub most : length area ≤ areaLength
 
 -- bytes stand in the area from a place on; `end` is the place behind them
 pub record Wrote (entry : List ℕ) (at : ℕ) (bytes exit : List ℕ) (end : ℕ) : Type 0 where

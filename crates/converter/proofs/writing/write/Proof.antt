@@ -1,40 +1,31 @@
+-- `converter::write` meets its contract. The counts, the pairs and the records, in a cleared area.
+-- Assumes nothing.
+use native.Mathlib.Omega.{arith}
+use Rattle.converter.proofs.Rewriting.{all-fit, wrote-file}
 use borrow.Author.Needs.{needs}
 use Rattle.converter.proofs.writing.write.Statement.{statement}
 use Rattle.converter.proofs.writing.write.Tie as tie
-use Rattle.converter.proofs.writing.write.Reads as reads
-use Rattle.converter.proofs.writing.write.Lts as lts
-use Rattle.clearing.proofs.clear_bytes.Reads as clear-bytes-reads
-use Rattle.converter.proofs.writing.write_pairs.Reads as write-pairs-reads
-use Rattle.converter.proofs.writing.write_records.Reads as write-records-reads
-use Rattle.filing.proofs.put_pair.Reads as put-pair-reads
 
--- src/writing.rt:50:5
 clear-bytes-requires : tie.Need-clear-bytes-requires
 clear-bytes-requires c κs = search needs
 
--- src/writing.rt:51:23
 add-put-pair : tie.Need-add-put-pair
-add-put-pair c = search needs
+add-put-pair c = omega (arith, c .before .before .before .before .before .before .before .before .pre .0 .counts, c .before .before .before .before .before .before .before .before .pre .1)
 
--- src/writing.rt:51:5
 put-pair-requires : tie.Need-put-pair-requires
 put-pair-requires c κs = search needs
 
--- src/writing.rt:52:5
 write-pairs-requires : tie.Need-write-pairs-requires
-write-pairs-requires c κs = ?
+write-pairs-requires c κs = all-fit _ _ _ _ (c .before .before .before .before .before .before .before .before .before .before .before .before .pre .0) (c .before .before .before .before .before .before .before .before .before .before .before .before .pre .2)
 
--- src/writing.rt:53:5
 write-records-requires : tie.Need-write-records-requires
-write-records-requires c κs = ?
+write-records-requires c κs = all-fit _ _ _ _ (c .before .before .before .before .before .before .before .before .before .before .before .before .before .before .before .before .pre .0) (c .before .before .before .before .before .before .before .before .before .before .before .before .before .before .before .before .pre .2)
 
--- src/writing.rt:39:1
 same-length : tie.Need-same-length
 same-length c = search needs
 
--- src/writing.rt:39:1
 returns : tie.Need-returns
-returns c = ?
+returns c = wrote-file _ _ _ _ (c .before .before .before .before .before .before .before .before .before .before .before .before .before .before .before .before .before .before .before .pre .1) (c .before .before .before .before .before .before .before .before .before .before .before .before .before .before .before .before .before .before .before .pre .2) (c .before .before .before .before .before .before .before .before .before .before .before .before .before .before .before .before .before .before .before .pre .0 .room) (c .before .before .before .before .before .before .before .before .before .before .before .before .before .before .before .clear-bytes .ensures) (c .before .before .before .before .before .before .before .before .before .before .put-pair .ensures) (c .before .before .before .before .before .before .write-pairs .ensures) (c .before .before .write-records .ensures)
 
 pub write-spec : {M : Type 1} → statement M
 write-spec =

@@ -1,0 +1,120 @@
+-- `specs/Conversions`, proved: both ways at once, and then each.
+-- Assumes nothing.
+use Prim.Native.Nat.{ℕ, _+_, _-_, _≤_}
+use mathlib.Core.Path.{_≡_, refl, sym, ap, subst, _∙_}
+use mathlib.Core.Bool.{true}
+use mathlib.Core.List.{List, [], _∷_, _++_}
+use native.Mathlib.Omega.{arith}
+use lib.ListN.{length, take, drop, replicate}
+use lib.Dec.{eqb}
+use lib.Seq.{take-at, drop-at}
+use borrow.Author.Tests.{eqb-true, eq-eqb}
+use Rattle.lists.specs.Ladder.{_orElse_, firstNo, accepted}
+use Rattle.lists.specs.Areas.{padded}
+use Rattle.lists.specs.Outcome.{outcome}
+use Rattle.lists.proofs.Ladders.{asked, ask-yes, all-asked, first-none, unless-none}
+use Rattle.lists.proofs.Padding.{pad-length}
+use Rattle.method.specs.Circuit.{Circuit}
+use Rattle.editions.specs.declared.Edition.{Edition}
+use Rattle.editions.specs.Edition.{former, present}
+use Rattle.editions.specs.File.{circuitOf}
+use Rattle.editions.specs.Limits.{Writable, Within}
+use Rattle.editions.specs.Questions.{InputsAndGates, questions, inputsAndGatesOf, readOf}
+use Rattle.editions.specs.Encode.{encode}
+use Rattle.editions.specs.Faithful.{Bytes, inputsAndGatesIn, Faithful}
+use Rattle.editions.proofs.Faithful.{faithful, former-writable, present-writable}
+use Rattle.lists.proofs.Ladders.{accepted-none}
+use Rattle.filing.specs.Filed.{areaLength, areaQuestion, filedBy}
+use Rattle.filing.proofs.Filed.{file-most, filed-yes, answered-yes, left-yes}
+use Rattle.converter.specs.Convert.{delaysUpTo, newerOf, olderOf}
+use Rattle.converter.specs.Conversions.{Holds, Conversions}
+use Rattle.converter.specs.Steps.{questionsBy, convertedBy}
+use Rattle.converter.proofs.Asking.{rest, joined}
+use Rattle.converter.proofs.Both.{low-within, within-other, newer-is, older-is}
+
+-- ---- a file in an area with zeros behind it
+
+pad-front : (n : ℕ) (xs : List ℕ) → take (length xs) (padded n xs) ≡ xs
+unfolding padded
+pad-front n xs = take-at xs (replicate (n - length xs) 0) (length xs) refl
+
+pad-behind : (n : ℕ) (xs : List ℕ) → drop (length xs) (padded n xs) ≡ replicate (n - length xs) 0
+unfolding padded
+pad-behind n xs = drop-at xs (replicate (n - length xs) 0) (length xs) refl
+
+-- ---- both ways at once
+
+module _ (from to : Edition) (fit-from : Writable from) (fit-to : Writable to) where
+  true-from : Faithful from
+  true-from = faithful from fit-from
+
+  true-to : Faithful to
+  true-to = faithful to fit-to
+
+  -- what an acceptance says
+  record Yes (file area : List ℕ) (n : ℕ) : Type 0 where
+    read : readOf from file ≡ accepted (inputsAndGatesOf from file)
+    long : length area ≡ areaLength
+    within-from : Within from (circuitOf from file)
+    within-to : Within to (circuitOf from file)
+    answer : n ≡ length (encode to (circuitOf from file))
+    left : convertedBy from to file area .left ≡ padded areaLength (encode to (circuitOf from file))
+
+  yes-all : (file area : List ℕ) (n : ℕ) → convertedBy from to file area .answer ≡ accepted n → Yes file area n
+  unfolding convertedBy readOf
+  yes-all file area n e =
+      let f = encode to (circuitOf from file) in
+      let q = answered-yes (questionsBy from to file area) f area e in
+      let parts = first-none (firstNo (questions from file)) (firstNo (rest from to file area)) (sym (joined from to file area) ∙ q .0) in
+      let a1 = asked (eqb (length area) areaLength) 10 _ (λ z. omega arith) (parts .1) in
+      let a2 = asked (delaysUpTo (to .most) (circuitOf from file .gates)) 23 [] (λ z. omega arith) (a1 .1) in
+      let long = eqb-true _ _ (a1 .0) in
+      let read = unless-none (firstNo (questions from file)) (inputsAndGatesOf from file) (parts .0) in
+      let w = true-from .within file _ read in
+      record {
+        read = read;
+        long = long;
+        within-from = w;
+        within-to = within-other from to (circuitOf from file) w (a2 .0);
+        answer = sym (q .1);
+        left = left-yes (questionsBy from to file area) f area (q .0) ∙ rw long;
+      }
+
+  pub reads : (file area : List ℕ) (n : ℕ) → convertedBy from to file area .answer ≡ accepted n → Holds to (circuitOf from file) n (convertedBy from to file area .left)
+  reads file area n e =
+      let y = yes-all file area n e in
+      let f = encode to (circuitOf from file) in
+      let most = file-most to from (circuitOf from file) (y .within-from) in
+      let front : take n (convertedBy from to file area .left) ≡ f = rw (y .left, y .answer) (pad-front areaLength f) in
+      record {
+        long = rw (y .left) (pad-length areaLength f most);
+        room = omega (arith, most, y .answer);
+        rest = rw (y .left, y .answer) (pad-behind areaLength f);
+        bytes = rw front (true-to .bytes (circuitOf from file) (y .within-to));
+        accepts = rw front (true-to .accepts (circuitOf from file) (y .within-to));
+        means = rw front (true-to .means (circuitOf from file) (y .within-to));
+      }
+
+  pub back : (file area area′ : List ℕ) (n : ℕ) → Bytes file → convertedBy from to file area .answer ≡ accepted n → length area′ ≡ areaLength
+      → convertedBy to from (take n (convertedBy from to file area .left)) area′ ≡ outcome (accepted (length file)) (padded areaLength file)
+  unfolding convertedBy readOf
+  back file area area′ n b e l =
+      let y = yes-all file area n e in
+      let c = circuitOf from file in
+      let f = encode to c in
+      let front : take n (convertedBy from to file area .left) ≡ f = rw (y .left, y .answer) (pad-front areaLength f) in
+      let same : circuitOf to f ≡ c = true-to .means c (y .within-to) in
+      let first-yes = accepted-none (firstNo (questions to f)) (inputsAndGatesOf to f) (true-to .accepts c (y .within-to)) .0 in
+      let low : delaysUpTo (from .most) (circuitOf to f .gates) ≡ true = rw same (low-within from (from .most) c (omega arith) (y .within-from)) in
+      let whole : encode from (circuitOf to f) ≡ file = rw same (true-from .written file _ b (y .read)) in
+      let none : firstNo (questionsBy to from f area′) ≡ 0 = joined to from f area′ ∙ rw first-yes (ask-yes _ _ _ (eq-eqb _ _ l) ∙ ask-yes _ _ _ low ∙ all-asked) in
+      rw front (sym (filed-yes (questionsBy to from f area′) (encode from (circuitOf to f)) area′ none (rw whole) (rw (whole, l))))
+
+pub conversions : Conversions
+conversions =
+    record {
+      newer-reads = λ file area n e. subst (λ o. Holds present (circuitOf former file) n (o .left)) (newer-is file area) (reads former present former-writable present-writable file area n (rw (newer-is file area) e));
+      older-reads = λ file area n e. subst (λ o. Holds former (circuitOf present file) n (o .left)) (older-is file area) (reads present former present-writable former-writable file area n (rw (older-is file area) e));
+      newer-back = λ file area area′ n b e l. rw (← newer-is file area, ← older-is (take n (convertedBy former present file area .left)) area′) (back former present former-writable present-writable file area area′ n b (rw (newer-is file area) e) l);
+      older-back = λ file area area′ n b e l. rw (← older-is file area, ← newer-is (take n (convertedBy present former file area .left)) area′) (back present former present-writable former-writable file area area′ n b (rw (older-is file area) e) l);
+    }
