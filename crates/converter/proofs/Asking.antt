@@ -39,8 +39,7 @@ use Rattle.converter.specs.Steps.{questionsBy, convertedBy, Fit, Fits, R
 low-at : (ed : Edition) (file : List ℕ) (most n : ℕ) → delaysUpTo most (tabulate n (gateOf ed file)) ≡ true → (j : ℕ) → j < n → (delayOf ed file j ≤ most) × (inertialOf ed file j ≤ most)
 unfolding delaysUpTo gateOf
 low-at ed file most n e j l =
-    let b = every-from (λ (g : Gate). leb (g .delay) most && leb (g .inertial) most) (gateOf ed file) n 0 e j (omega arith) (omega arith) in
-    (
+    let b = every-from (λ (g : Gate). leb (g .delay) most && leb (g .inertial) most) (gateOf ed file) n 0 e j (omega arith) (omega arith) in (
       leb-true (delayOf ed file j) most (and-left (leb (delayOf ed file j) most) (leb (inertialOf ed file j) most) b),
       leb-true (inertialOf ed file j) most (and-right (leb (delayOf ed file j) most) (leb (inertialOf ed file j) most) b),
     )

@@ -2,17 +2,17 @@
 -- Assumes nothing.
 use Prim.Native.Nat.{ℕ, _+_, _-_, _≤_}
 use mathlib.Core.Path.{_≡_, refl, sym, ap, subst, _∙_}
-use mathlib.Core.Bool.{true}
+use mathlib.Core.Bool.{Bool, true, false, cond}
 use mathlib.Core.List.{List, [], _∷_, _++_}
 use native.Mathlib.Omega.{arith}
 use lib.ListN.{length, take, drop, replicate}
-use lib.Dec.{eqb}
+use lib.Dec.{eqb, leb}
 use lib.Seq.{take-at, drop-at}
 use borrow.Author.Tests.{eqb-true, eq-eqb}
 use Rattle.lists.specs.Ladder.{_orElse_, firstNo, accepted}
 use Rattle.lists.specs.Areas.{padded}
-use Rattle.lists.specs.Outcome.{outcome}
-use Rattle.lists.proofs.Ladders.{asked, ask-yes, all-asked, first-none, unless-none}
+use Rattle.lists.specs.Outcome.{Outcome, outcome}
+use Rattle.lists.proofs.Ladders.{asked, ask-yes, all-asked, first-none, unless-none, accepted-none}
 use Rattle.lists.proofs.Padding.{pad-length}
 use Rattle.method.specs.Circuit.{Circuit}
 use Rattle.editions.specs.declared.Edition.{Edition}
@@ -23,10 +23,12 @@ use Rattle.editions.specs.Questions.{InputsAndGates, questions, inputsAndGatesO
 use Rattle.editions.specs.Encode.{encode}
 use Rattle.editions.specs.Faithful.{Bytes, inputsAndGatesIn, Faithful}
 use Rattle.editions.proofs.Faithful.{faithful, former-writable, present-writable}
-use Rattle.lists.proofs.Ladders.{accepted-none}
 use Rattle.filing.specs.Filed.{areaLength, areaQuestion, filedBy}
 use Rattle.filing.proofs.Filed.{file-most, filed-yes, answered-yes, left-yes}
-use Rattle.converter.specs.Convert.{delaysUpTo, newerOf, olderOf}
+use Rattle.numbers.specs.Numbers.{numberAt}
+use Rattle.converter.specs.declared.Conversion.{Conversion}
+use Rattle.converter.specs.declared.Conversion.the-variants as C
+use Rattle.converter.specs.Convert.{delaysUpTo, newerOf, olderOf, presentFrom, otherOf, onPaper}
 use Rattle.converter.specs.Conversions.{Holds, Conversions}
 use Rattle.converter.specs.Steps.{questionsBy, convertedBy}
 use Rattle.converter.proofs.Asking.{rest, joined}
@@ -118,3 +120,22 @@ conversions =
       newer-back = λ file area area′ n b e l. rw (← newer-is file area, ← older-is (take n (convertedBy former present file area .left)) area′) (back former present former-writable present-writable file area area′ n b (rw (newer-is file area) e) l);
       older-back = λ file area area′ n b e l. rw (← older-is file area, ← newer-is (take n (convertedBy present former file area .left)) area′) (back present former present-writable former-writable file area area′ n b (rw (older-is file area) e) l);
     }
+
+-- ---- the file that a conversion leaves lies within the area
+
+within-left : {ed : Edition} {c : Circuit} {n : ℕ} {left : List ℕ} → Holds ed c n left → n ≤ length left
+within-left h = omega (arith, h .room, h .long)
+
+other-most : (file area : List ℕ) (n : ℕ) → otherOf file area .answer ≡ accepted n → n ≤ length (otherOf file area .left)
+unfolding otherOf
+other-most file area n e = go (leb presentFrom (numberAt file 0)) e
+  where
+    go : (b : Bool) → cond b (olderOf file area) (newerOf file area) .answer ≡ accepted n → n ≤ length (cond b (olderOf file area) (newerOf file area) .left)
+    go true y = within-left (conversions .older-reads file area n y)
+    go false y = within-left (conversions .newer-reads file area n y)
+
+pub other-inside : (file area : List ℕ) {area′ : List ℕ} {r : Conversion} → outcome (onPaper r) area′ ≡ otherOf file area → {n : ℕ} → r ≡ C.Written n → n ≤ length area′
+unfolding onPaper
+other-inside file area {area′} e {n} w =
+    subst (λ (l : List ℕ). n ≤ length l) (sym (ap (λ (o : Outcome ℕ (List ℕ)). o .left) e))
+    (other-most file area n (sym (ap (λ (o : Outcome ℕ (List ℕ)). o .answer) e) ∙ ap onPaper w))

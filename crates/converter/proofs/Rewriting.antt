@@ -108,7 +108,7 @@ module _ (from to : Edition) (file : List ℕ) (j : ℕ) {g : GateRecord} (a : g
       let own = gateOf from file j in
       record {
         is = put-both entry at (encodeHead to (own .kind) (own .delay) (own .inertial)) (flatMap twoBytes (own .fanins)) {area₁ = area} {q = at + head} (e ∙ rw a)
-          (rw (head-length to own, h)) (f ∙ rw a);
+            (rw (head-length to own, h)) (f ∙ rw a);
         ends = omega (arith, gate-length to own, fanins-length from file j, ap (λ (r : GateRecord). r .entries) a, h);
       }
 
@@ -147,8 +147,8 @@ module _ (from to : Edition) (file : List ℕ) (n : ℕ) where
           within = omega arith;
           low = omega (arith, most, record-few from file j a few, head-most to, h);
           stored = rw same
-            (store-more (p .stored) (twoBytes start ++ twoBytes len) rest (rw (gate-first j l) (sym (append-assoc (twoBytes start) (twoBytes len) rest))) (rw (← same) e)
-            (omega (arith, length-append (twoBytes start) (twoBytes len), two-length start, two-length len)));
+              (store-more (p .stored) (twoBytes start ++ twoBytes len) rest (rw (gate-first j l) (sym (append-assoc (twoBytes start) (twoBytes len) rest))) (rw (← same) e)
+              (omega (arith, length-append (twoBytes start) (twoBytes len), two-length start, two-length len)));
         }
 
     pub pairing-all : n ≤ j → area ≡ sets area₀ 4 (encodePairs to (headLength n) (gatesIn from file n 0))

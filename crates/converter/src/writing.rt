@@ -84,14 +84,7 @@ fn write_records(from: Edition, to: Edition, file: &[u8], gates: u16, area: &mut
 }
 
 // The record of gate j from a place on; the answer is the place behind it.
-fn write_record(
-    from: Edition,
-    to: Edition,
-    file: &[u8],
-    j: u16,
-    area: &mut [u8],
-    at: u16,
-) -> u16
+fn write_record(from: Edition, to: Edition, file: &[u8], j: u16, area: &mut [u8], at: u16) -> u16
     requires { ⌜ Fits from to (now file) (j + 1) × (at ≤ 4096) ⌝ }
     ensures { λ r. ⌜ Wrote (now (area .entry)) at (encodeGate to (gateOf from (now (file .entry)) j)) (now (area .exit)) r ⌝ }
 {

@@ -137,11 +137,10 @@ module _ (ed : Edition) where
 
     bytes-head : (net : ℕ) (g : Gate) → GateWithin ed net g → AllBytes (encodeHead ed (g .kind) (g .delay) (g .inertial))
     unfolding encodeHead
-    bytes-head net g w =
-        (
-          omega (arith, kind-most (g .kind)),
-          bytes-append (encodeDelay ed (g .delay)) (encodeDelay ed (g .inertial)) (bytes-delay (g .delay) (w .delay-most)) (bytes-delay (g .inertial) (w .inertial-most)),
-        )
+    bytes-head net g w = (
+      omega (arith, kind-most (g .kind)),
+      bytes-append (encodeDelay ed (g .delay)) (encodeDelay ed (g .inertial)) (bytes-delay (g .delay) (w .delay-most)) (bytes-delay (g .inertial) (w .inertial-most)),
+    )
 
     bytes-gate : (net : ℕ) (g : Gate) → net < 65536 → GateWithin ed net g → AllBytes (encodeGate ed g)
     unfolding encodeGate

@@ -167,8 +167,8 @@ present-faithful = faithful present present-writable
 between-out : (a b n : ℕ) → (a ≤ n → n ≤ b → ⊥) → between a b n ≡ false
 between-out a b n h =
     elim (order a n) [
-      inl x ↦ elim (order n b) [ inl y ↦ absurd (h x y) | inr y ↦ rw (le-leb a n x, lt-leb n b y) ]
-    | inr x ↦ rw (lt-leb a n x)
+      | inl x ↦ elim (order n b) [ inl y ↦ absurd (h x y) | inr y ↦ rw (le-leb a n x, lt-leb n b y) ]
+      | inr x ↦ rw (lt-leb a n x)
     ]
 
 -- a file of 4 bytes or more whose bytes 0-1 no I of the edition gives

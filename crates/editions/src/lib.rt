@@ -12,14 +12,13 @@ ghost use Rattle.editions.specs.Limits.{mostInputs, mostGates, delaysSui
 
 mod bytes;
 
-pub use bytes::delay_bytes;
-pub use bytes::record_head;
-
 use bytes::delay_at;
+pub use bytes::delay_bytes;
 use bytes::entries_of;
 use bytes::kind_of;
 use bytes::length_of;
 use bytes::offset_of;
+pub use bytes::record_head;
 use method::Kind;
 use method::Net;
 use method::Tick;

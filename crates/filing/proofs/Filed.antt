@@ -49,8 +49,7 @@ module _ (ed : Edition) where
       let g = length (c .gates) in
       let pairs = encodePairs ed (headLength g) (c .gates) in
       let records = flatMap (encodeGate ed) (c .gates) in
-      omega
-      (
+      omega (
         arith,
         length-append (twoBytes (c .inputs + ed .added)) (twoBytes g ++ (pairs ++ records)),
         length-append (twoBytes g) (pairs ++ records),

@@ -6,6 +6,7 @@ mod output;
 
 pub use input::Received;
 pub use input::read_input;
+pub use output::say;
 pub use output::write_decimal;
 pub use output::write_hex;
 pub use output::write_output;

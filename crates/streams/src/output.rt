@@ -2,6 +2,7 @@
 ghost use Prim.Native.Nat.{_≤_};
 ghost use lib.ListN.{length};
 use crate::may_try_again;
+use libc::STDERR_FILENO;
 use libc::STDOUT_FILENO;
 
 // Writes all the bytes, in as many pieces as are taken. False where a write fails; some of them may have been written then.
@@ -54,4 +55,9 @@ pub fn write_hex(n: u64, width: usize) -> bool {
     let mut text = [0u8; 16];
     let k = io::hex(n, width, &mut text);
     write_output(&text[..k])
+}
+
+// Says a line to whoever watches, on standard error. One that cannot be said is lost.
+pub fn say(line: &[u8]) {
+    io::write_all(STDERR_FILENO, line);
 }
