@@ -12,7 +12,7 @@ use Rattle.lists.specs.Ladder.{Question, _orElse_, firstNo, unless, accepted}
 use Rattle.lists.specs.Tables.{every}
 use Rattle.lists.specs.Outcome.{Outcome, outcome, leftUnless}
 use Rattle.lists.proofs.Choices.{and-left, and-right, and-both}
-use Rattle.lists.proofs.Ladders.{ask-yes, all-asked, firstNo-append, firstNo-behind, first, unless-none}
+use Rattle.lists.proofs.Ladders.{ask-yes, all-asked, firstNo-append, firstNo-behind, first, unless-none, isNumber, numbered, each-append}
 use Rattle.numbers.specs.Numbers.{numberAt}
 use Rattle.method.specs.Circuit.{Gate, Circuit}
 use Rattle.editions.specs.declared.Edition.{Edition}
@@ -114,3 +114,13 @@ writable-present e = rw e present-writable
 
 pub writable-former : {ed : Edition} → ed ≡ former → Writable ed
 writable-former e = rw e former-writable
+
+-- ---- no question has the number 0
+
+pub newer-numbered : (file area : List ℕ) → numbered (newerQuestions file area) ≡ true
+unfolding newerQuestions
+newer-numbered file area = each-append isNumber (reader.questions former file) (areaQuestion area ∷ []) (questions-numbered former file) refl
+
+pub older-numbered : (file area : List ℕ) → numbered (olderQuestions file area) ≡ true
+unfolding olderQuestions
+older-numbered file area = each-append isNumber (reader.questions present file) _ (questions-numbered present file) refl

@@ -3,3 +3,4 @@ pub mod Rewriting
 pub mod Asking
 pub mod Both
 pub mod Conversions
+pub mod Long

@@ -1,6 +1,7 @@
 -- What holds of the converters: the file written reads back, in its edition, to the same circuit, and there and back is the same
--- file. `proofs/Conversions` proves this record. That no file passes in both editions stands in `editions/specs/Faithful`.
-use Prim.Native.Nat.{ℕ, _-_, _≤_}
+-- file (`Conversions`, proved in `proofs/Conversions`); and how much of a file decides (`Long`, in `proofs/Long`). That no file passes
+-- in both editions stands in `editions/specs/Faithful`.
+use Prim.Native.Nat.{ℕ, suc, _-_, _≤_, _<_}
 use mathlib.Core.Path.{_≡_}
 use mathlib.Core.List.{List}
 use lib.ListN.{length, take, drop, replicate}
@@ -14,7 +15,7 @@ use Rattle.editions.specs.File.{circuitOf}
 use Rattle.editions.specs.Questions.{readOf}
 use Rattle.editions.specs.Faithful.{Bytes, inputsAndGatesIn}
 use Rattle.filing.specs.Filed.{areaLength}
-use Rattle.converter.specs.Convert.{newerOf, olderOf}
+use Rattle.converter.specs.Convert.{newerOf, olderOf, otherOf}
 
 -- the first n bytes of the area are a file of the edition, which means the circuit, and the rest is 0
 pub record Holds (e : Edition) (c : Circuit) (n : ℕ) (left : List ℕ) : Type 0 where
@@ -33,3 +34,11 @@ pub record Conversions : Type 0 where
       → olderOf (take n (newerOf file area .left)) area′ ≡ outcome (accepted (length file)) (padded areaLength file)
   pub older-back : (file area area′ : List ℕ) (n : ℕ) → Bytes file → olderOf file area .answer ≡ accepted n → length area′ ≡ areaLength
       → newerOf (take n (olderOf file area .left)) area′ ≡ outcome (accepted (length file)) (padded areaLength file)
+
+-- no offset and length of two bytes each add up to more
+abbrev pub mostReach : ℕ
+mostReach = 131070
+
+-- so of a longer file one byte more than that is enough to read: the answer is the same
+abbrev pub Long : Type 0
+Long = (file area : List ℕ) → Bytes file → mostReach < length file → otherOf (take (suc mostReach) file) area ≡ otherOf file area

@@ -5,13 +5,14 @@ use mathlib.Core.Path.{_≡_, refl, sym, ap, subst, _∙_}
 use mathlib.Core.Bool.{Bool, true, false}
 use mathlib.Core.List.{List, [], _∷_}
 use native.Mathlib.Omega.{arith}
+use borrow.Author.Tests.{ne-eqb}
 use Rattle.lists.specs.Ladder.{Question, firstNo, unless}
-use Rattle.lists.specs.Outcome.{leftBy}
+use Rattle.lists.specs.Outcome.{leftBy, leftUnless}
 use Rattle.lists.specs.Every.{none, one}
 use Rattle.lists.proofs.Choices.{and-left, and-right}
 use Rattle.lists.proofs.Ladders.{isNumber, number-some, numbered, unless-none, unless-some}
 use Rattle.lists.proofs.Leaving.{left-none, left-some}
-use Rattle.demands.specs.Answers.{AllYes, FirstFails, Answered, all-yes, first-no, Leaves, SameRefusal, refusals, acceptances}
+use Rattle.demands.specs.Answers.{AllYes, FirstFails, Answered, all-yes, first-no, Leaves, LeavesUnless, SameRefusal, refusals, acceptances}
 
 -- every answer is yes, or there is a first "no"
 data Decision (qs : List Question) : Type 0 where
@@ -42,6 +43,11 @@ pub leaves : {R S : Type 0} (n : ℕ) (values : R) (filled zeros entry : S) → 
 unfolding unless
 leaves zero values filled zeros entry = left-none filled zeros entry
 leaves (suc n) values filled zeros entry = left-some filled zeros entry (suc n) (λ z. omega arith)
+
+pub leaves-unless : {R S : Type 0} (n : ℕ) (values : R) (filled entry : S) → LeavesUnless (unless n values) filled entry (leftUnless n filled entry)
+unfolding unless leftUnless
+leaves-unless zero values filled entry = refl
+leaves-unless (suc n) values filled entry = rw (ne-eqb (suc n) 0 (λ z. omega arith))
 
 -- the same first "no", whatever the values
 pub same-refusal : {R : Type 0} (n : ℕ) (values values′ : R) → SameRefusal (unless n values) (unless n values′)

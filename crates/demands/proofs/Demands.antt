@@ -6,6 +6,7 @@ use mathlib.Core.Bool.{true}
 use mathlib.Core.List.{List, map}
 use lib.ListN.{length}
 use Rattle.lists.specs.Ladder.{firstNo}
+use Rattle.lists.specs.Areas.{padded}
 use Rattle.method.specs.Look.{changes}
 use Rattle.method.specs.Words.{lane}
 use Rattle.method.proofs.Changes.{suited}
@@ -30,6 +31,9 @@ use Rattle.engine.specs.Questions as engine
 use Rattle.engine.specs.Run.{filled, runLeft, runOf}
 use Rattle.looks.specs.Sight.{sight}
 use Rattle.looks.specs.Look.{lookQuestions, levelOf, countOf}
+use Rattle.filing.specs.Filed.{filedBy}
+use Rattle.converter.specs.Convert.{newerQuestions, newerFile, newerOf, olderQuestions, olderFile, olderOf}
+use Rattle.converter.proofs.Both.{newer-numbered, older-numbered}
 use Rattle.engine.proofs.Answering.{all-numbered}
 use Rattle.looks.proofs.Seeing.{look-numbered}
 use Rattle.engine.proofs.Accepted.{held}
@@ -43,7 +47,7 @@ use Rattle.marking.proofs.Laddered.{ladder-numbered, ladder-run}
 use Rattle.marking.proofs.Marked.{mark-ran}
 use Rattle.demands.specs.Answers.{SameRefusal}
 use Rattle.demands.specs.Demands.{Demand1, Demand2Method, Demand2Lengths, Demand2Patterns, Demand2Marking, Demand3Level, Demand3Changes, Demand3Alike, Demands}
-use Rattle.demands.proofs.Deciding.{answered, leaves, same-refusal}
+use Rattle.demands.proofs.Deciding.{answered, leaves, leaves-unless, same-refusal}
 use Rattle.demands.proofs.Holding.{engine-ran, past-run, two-alike}
 use Rattle.demands.proofs.Meeting.{passes, passes-machine, fails}
 use Rattle.demands.proofs.Alike.{marked-alike}
@@ -57,7 +61,7 @@ mark-as-run task limit w a list y =
     ap (λ (n : ℕ). runLeft n task w a) (ladder-run task limit (lengthsOf w) a _ y)
 
 demand-1 : Demand1
-unfolding editions.readOf planOf runOf markOf levelOf countOf
+unfolding editions.readOf planOf runOf markOf levelOf countOf newerOf olderOf filedBy
 demand-1 =
     record {
       read = λ file. answered (circuit.questions file) (questions-numbered file) (circuit.inputsAndGatesOf file);
@@ -74,6 +78,10 @@ demand-1 =
       mark-as-run = mark-as-run;
       level = λ times values L t. answered (lookQuestions times values L) (look-numbered times values L) (sight times (map (lane L) values) t);
       count = λ times values L. answered (lookQuestions times values L) (look-numbered times values L) (changes (map (lane L) values));
+      newer = λ file area. answered (newerQuestions file area) (newer-numbered file area) (length (newerFile file));
+      newer-area = λ file area. leaves-unless (firstNo (newerQuestions file area)) (length (newerFile file)) (padded (length area) (newerFile file)) area;
+      older = λ file area. answered (olderQuestions file area) (older-numbered file area) (length (olderFile file));
+      older-area = λ file area. leaves-unless (firstNo (olderQuestions file area)) (length (olderFile file)) (padded (length area) (olderFile file)) area;
     }
 
 -- ---- demand 2

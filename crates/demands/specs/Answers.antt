@@ -29,6 +29,11 @@ abbrev pub Leaves : {R S : Type 0} → Answer R → S → S → S → S → Type
 Leaves (accepted values) filled zeros entry left = left ≡ filled
 Leaves (refused n) filled zeros entry left = left ≡ cond (clears n) zeros entry
 
+-- the same of a call none of whose numbers writes
+abbrev pub LeavesUnless : {R S : Type 0} → Answer R → S → S → S → Type 0
+LeavesUnless (accepted values) filled entry left = left ≡ filled
+LeavesUnless (refused n) filled entry left = left ≡ entry
+
 -- two answers that are the same refusal, or two acceptances
 pub data SameRefusal {R : Type 0} : Answer R → Answer R → Type 0 where
   refusals : (n : ℕ) → SameRefusal (refused n) (refused n)

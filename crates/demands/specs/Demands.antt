@@ -1,6 +1,6 @@
 -- The conditions of purchase, sentence by sentence. The calls' contracts say that what `read`, `plan`, `run`, `level`,
--- `count` and `mark` answer and leave is `readOf`, `planOf`, `runOf`, `levelOf`, `countOf` and `markOf`; here stands what
--- holds of these. `demands` in `proofs/Demands` proves it.
+-- `count`, `mark`, `newer` and `older` answer and leave is `readOf`, `planOf`, `runOf`, `levelOf`, `countOf`, `markOf`, `newerOf`
+-- and `olderOf`; here stands what holds of these. `demands` in `proofs/Demands` proves it.
 use Prim.Native.Nat.{ℕ, suc, _<_, _≤_}
 use mathlib.Core.Path.{_≡_}
 use mathlib.Core.Logic.{_≢_}
@@ -40,7 +40,8 @@ use Rattle.expectations.specs.Suits.{listSuits}
 use Rattle.marking.specs.Questions as marking
 use Rattle.expectations.specs.Verdict.{Verdict, allMet, place}
 use Rattle.marking.specs.Mark.{verdict, markOf}
-use Rattle.demands.specs.Answers.{Answered, Leaves, SameRefusal, SameVerdict}
+use Rattle.converter.specs.Convert.{newerQuestions, newerFile, newerOf, olderQuestions, olderFile, olderOf}
+use Rattle.demands.specs.Answers.{Answered, Leaves, LeavesUnless, SameRefusal, SameVerdict}
 use Rattle.demands.specs.Runs.{Marked, Ran, HoldsPlan}
 use Rattle.demands.specs.Marks.{Met, MetByMachine, Place}
 
@@ -68,6 +69,13 @@ pub record Demand1 : Type 0 where
       → markOf task limit w a list .left ≡ runOf task limit w a .left
   pub level : (times values : List ℕ) (L t : ℕ) → Answered (lookQuestions times values L) (sight times (map (lane L) values) t) (levelOf times values L t)
   pub count : (times values : List ℕ) (L : ℕ) → Answered (lookQuestions times values L) (changes (map (lane L) values)) (countOf times values L)
+  -- the converters, which no other call needs: a file in, an area out
+  pub newer : (file area : List ℕ) → Answered (newerQuestions file area) (length (newerFile file)) (newerOf file area .answer)
+  pub newer-area : (file area : List ℕ)
+      → LeavesUnless (newerOf file area .answer) (padded (length area) (newerFile file)) area (newerOf file area .left)
+  pub older : (file area : List ℕ) → Answered (olderQuestions file area) (length (olderFile file)) (olderOf file area .answer)
+  pub older-area : (file area : List ℕ)
+      → LeavesUnless (olderOf file area .answer) (padded (length area) (olderFile file)) area (olderOf file area .left)
 
 -- ---- demand 2
 
