@@ -5,6 +5,7 @@ draws what the programs print.
     python3 tools/circuit_file.py examples/first.txt > first.wave                   an input of the wave program
     python3 tools/circuit_file.py --outside examples/counter.txt > counter.outside  an input of the program outside
     python3 tools/circuit_file.py --circuit examples/first.txt > first.circuit      the circuit file alone
+    python3 tools/circuit_file.py --former examples/first.txt > first.former        the same in the former edition
     target/bin/wave < first.wave | python3 tools/circuit_file.py --draw examples/first.txt
     target/bin/wave < first.wave | python3 tools/circuit_file.py --draw --at 3 examples/first.txt
     target/bin/outside < counter.outside | python3 tools/circuit_file.py --draw examples/counter.txt
@@ -16,13 +17,19 @@ The text has a line for each net, the inputs first. What follows a # is a commen
     not_a = NOT a, delay 2                    kind, nets that the gate reads, transport delay
     pulse = AND a not_a, delay 1, inertial 1  the inertial delay is 0 if it is not given
 
-An input has at most 8 changes, at rising times from 1 to 255; the level may stay at one. The wave program knows just one
-change, at time 1; outside takes them all. Nets are numbered in the order of their lines, from 0. The levels go into lane 0;
-the other lanes are 0. In a drawing a column is a unit of time, _ is level 0, - is level 1, and / and \ stand at the times of
-the changes. With --at the frame of each net under that time follows: its level, when it began, and when the next begins
-(outside prints changes alone, so there it is when the level next changes).
+A delay is at most 60,000; in the former edition of the circuit file it is at most 63. The unit may be any, such as the
+picoseconds of a supplier's sheet. An input has at most 8 changes, at rising times from 1 to 255; the level may stay at one. The
+wave program knows just one change, at time 1; outside takes them all. Nets are numbered in the order of their lines, from 0. The
+levels go into lane 0; the other lanes are 0.
+
+In a drawing _ is level 0, - is level 1, and / and \ stand at the times of the changes. A column is a unit of time where the last
+time is below 98. Later ones would make the picture too wide: then a column is 2, 5, 10, 20 .. units, as a line below the picture
+says, / or \ stands where the net changes once in these, and X where it changes more than once. With --at the frame of each net
+under that time follows: its level, when it began, and when the next begins (outside prints changes alone, so there it is when the
+level next changes).
 """
 import argparse
+import itertools
 import re
 import sys
 from collections import namedtuple
@@ -33,26 +40,40 @@ Gate = namedtuple("Gate", "name kind fanins delay inertial")
 # ---- The bytes: all that this script knows of the file format and its limits
 
 KINDS = ["BUF", "NOT", "AND", "NAND", "OR", "NOR", "XOR", "XNOR"]  # a kind's number is its place
-MOST_INPUTS, MOST_GATES, MOST_FANINS, MOST_DELAY, MOST_TIME = 32, 128, 8, 63, 65535
+MOST_INPUTS, MOST_GATES, MOST_FANINS, MOST_DELAY, MOST_TIME = 32, 128, 8, 60000, 2**32 - 1
 MOST_CHANGES, LAST_CHANGE = 8, 255
+FORMER_DELAY = 63  # the most that a delay's one byte may hold in the former edition
 
 
 def two(number):
     return number.to_bytes(2, "little")
 
 
-def record(gate):
-    head = bytes([KINDS.index(gate.kind), gate.delay, gate.inertial])
-    return head + b"".join(two(net) for net in gate.fanins)
+def record(gate, delay_bytes):
+    delays = b"".join(delay.to_bytes(delay_bytes, "little") for delay in (gate.delay, gate.inertial))
+    return bytes([KINDS.index(gate.kind)]) + delays + b"".join(two(net) for net in gate.fanins)
 
 
-def circuit_file(inputs, gates):
-    records = [record(gate) for gate in gates]
+def file_of(first, gates, delay_bytes):
+    """A circuit file with this number in its bytes 0 and 1, and so many bytes for each delay."""
+    records = [record(gate, delay_bytes) for gate in gates]
     at, pairs = 4 + 4 * len(records), b""
     for r in records:
         pairs += two(at) + two(len(r))
         at += len(r)
-    return two(len(inputs)) + two(len(gates)) + pairs + b"".join(records)
+    return two(first) + two(len(gates)) + pairs + b"".join(records)
+
+
+def circuit_file(inputs, gates):
+    return file_of(256 + len(inputs), gates, 2)
+
+
+def former_file(inputs, gates):
+    """The circuit file in the former edition, which the program convert turns into the one of today."""
+    for gate in gates:
+        if max(gate.delay, gate.inertial) > FORMER_DELAY:
+            raise Fault(f"the former edition has no delay above {FORMER_DELAY}, as {gate.name} has one")
+    return file_of(len(inputs), gates, 1)
 
 
 def words(levels):
@@ -72,7 +93,7 @@ def wave_input(inputs, gates):
 
 def outside_input(inputs, gates):
     circuit, changes = circuit_file(inputs, gates), [change for i in inputs for change in i.changes]
-    counts, times = bytes(len(i.changes) for i in inputs), b"".join(two(time) for time, _ in changes)
+    counts, times = bytes(len(i.changes) for i in inputs), b"".join(time.to_bytes(4, "little") for time, _ in changes)
     levels = [i.before for i in inputs] + [level for _, level in changes]
     vector = two(len(circuit)) + two(len(changes)) + circuit + counts + times + words(levels)
     return two(len(vector)) + vector
@@ -162,14 +183,30 @@ def frames_of(line):
     return {int(time): int(word, 16) & 1 for time, word in re.findall(r"(\d+)=([0-9a-f]+)", line)}
 
 
-def picture(frames, end):
-    """A net's levels at the times before `end`."""
+MOST_COLUMNS = 100
+
+
+def step_for(last):
+    """How many units of time a column is: 1, 2, 5, 10, 20 .., the first that leaves few enough of them."""
+    steps = (digit * 10**power for power in itertools.count() for digit in (1, 2, 5))
+    return next(step for step in steps if last // step + 3 <= MOST_COLUMNS)
+
+
+def picture(frames, columns, step):
+    """A net's levels, a character a column: the level if it stays, else how it changes, or X if it does more than once."""
     drawn, level = "", frames[0]
-    for time in range(end):
-        now = frames.get(time, level)
-        drawn += "_/\\-"[2 * level + now]
-        level = now
+    for column in range(columns):
+        seen = [level] + [frames[time] for time in sorted(frames) if time // step == column]
+        level = seen[-1]
+        changes = sum(a != b for a, b in zip(seen, seen[1:]))
+        drawn += "X" if changes > 1 else "_/\\-"[2 * seen[0] + level]
     return drawn
+
+
+def ruler(columns, step):
+    """The times above the picture, at every fifth column, or at every tenth where they have more than four digits."""
+    apart = 5 if (columns - 1) * step < 10000 else 10
+    return "".join(f"{column * step:<{apart}}" for column in range(0, columns, apart)).rstrip()
 
 
 def frame_under(frames, time):
@@ -186,11 +223,17 @@ def draw(names, output, at=None):
     if len(output) != len(names):
         raise Fault(f"the text has {len(names)} nets, and the program printed {len(output)} lines")
     waves = [frames_of(line) for line in output]
-    end, width = max(max(frames) for frames in waves) + 3, max(map(len, names))
-    ruler = "".join(f"{time:<5}" for time in range(0, end, 5)).rstrip()
-    rows = [(f"{net:3} {name:{width}}  ", frames) for net, (name, frames) in enumerate(zip(names, waves))]
-    drawn = [f"    {'':{width}}  {ruler}"] + [row + picture(frames, end) for row, frames in rows]
-    return drawn if at is None else drawn + ["", f"at time {at}"] + [row + frame_under(frames, at) for row, frames in rows]
+    last, width = max(max(frames) for frames in waves), max(map(len, names))
+    step = step_for(last)
+    columns = last // step + 3
+    rows = [f"{net:3} {name:{width}}  " for net, name in enumerate(names)]
+    drawn = [row + picture(frames, columns, step) for row, frames in zip(rows, waves)]
+    drawn.insert(0, f"    {'':{width}}  {ruler(columns, step)}")
+    if step > 1:
+        drawn += ["", f"a column is {step} units of time; X is more than one change in it"]
+    if at is not None:
+        drawn += ["", f"at time {at}"] + [row + frame_under(frames, at) for row, frames in zip(rows, waves)]
+    return drawn
 
 
 def main():
@@ -199,6 +242,7 @@ def main():
     other = parser.add_mutually_exclusive_group()
     other.add_argument("--outside", action="store_true", help="write an input of the program outside")
     other.add_argument("--circuit", action="store_true", help="write the circuit file alone")
+    other.add_argument("--former", action="store_true", help="write the circuit file alone, in the former edition")
     other.add_argument("--draw", action="store_true", help="draw what the wave program or outside printed, from standard input")
     parser.add_argument("--at", type=int, metavar="TIME", help="with --draw: each net's frame under this time too")
     asked = parser.parse_args()
@@ -213,7 +257,8 @@ def main():
         elif sys.stdout.isatty():
             raise Fault("the output is no text: send it to a file with > FILE")
         else:
-            write = circuit_file if asked.circuit else outside_input if asked.outside else wave_input
+            write = (circuit_file if asked.circuit else former_file if asked.former else
+                     outside_input if asked.outside else wave_input)
             sys.stdout.buffer.write(write(inputs, gates))
     except Fault as fault:
         sys.exit(f"{asked.text}: {fault}")
