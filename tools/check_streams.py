@@ -1,6 +1,6 @@
 #!/usr/bin/env python3
 """Runs the built programs on their stored inputs where reading and writing wait or fail, which the gate does not.
-Usage: python3 tools/check_streams.py [NAME ..]   (wave, cases, marks and outside, unless names are given)"""
+Usage: python3 tools/check_streams.py [NAME ..]   (all programs, unless names are given)"""
 import fcntl
 import os
 import subprocess
@@ -70,21 +70,22 @@ def checks(name):
     program = os.path.join(ROOT, 'target', 'bin', name)
     data, text = stored(name, 'stdin'), stored(name, 'stdout')
     half = len(data) // 2
-    nothing = b'' if name == 'wave' else b'cut\n'
-    yield 'the second half comes late', late(program, [data[:half], data[half:]], 0.5) == (text, b'')
+    nothing = b'' if name in ('wave', 'convert') else b'cut\n'
+    way = b'from the former edition to the present one (picoseconds)\n' if name == 'convert' else b''
+    yield 'the second half comes late', late(program, [data[:half], data[half:]], 0.5) == (text, way)
     pieces = [data[k:k + 1] for k in range(half)][:2000]
-    yield 'byte by byte', late(program, pieces + [data[len(pieces):]], 0.0001) == (text, b'')
-    yield 'the output is slow', slow(program, data) == (text, b'')
+    yield 'byte by byte', late(program, pieces + [data[len(pieces):]], 0.0001) == (text, way)
+    yield 'the output is slow', slow(program, data) == (text, way)
     out, said = plain(program, '< ' + ROOT)
     yield 'the input is a directory', out == nothing and said.startswith(b'cannot read standard input: ')
     out, said = plain(program, '<&-')
     yield 'the input is closed', out == nothing and said.startswith(b'cannot read standard input: ')
     out, said = plain(program, '> /dev/full', data)
-    yield 'the output is full', said.startswith(b'cannot write standard output: ')
+    yield 'the output is full', said.startswith(way + b'cannot write standard output: ')
 
 
 wrong = 0
-names = sys.argv[1:] or ['wave', 'cases', 'marks', 'outside']
+names = sys.argv[1:] or ['wave', 'convert', 'cases', 'marks', 'outside', 'conversions']
 for name in names:
     for what, holds in checks(name):
         if not holds:
