@@ -7,18 +7,13 @@ use mathlib.Core.Bool.{true}
 use Rattle.lists.specs.Ladder.{Answer}
 use Rattle.lists.proofs.Ladders.{numbered, quiet}
 use Rattle.editions.specs.declared.Edition.{Edition}
-use Rattle.editions.specs.declared.GateRecord.{GateRecord}
 use Rattle.editions.specs.Edition.{present}
-use Rattle.editions.specs.File.{recordOf}
 use Rattle.editions.specs.Questions.{InputsAndGates, questions, readOf}
 use Rattle.editions.proofs.Gated as reader
 
 module _ (file : List ℕ) {ed : Edition} (p : ed ≡ present) where
   pub read-present : {r : Answer InputsAndGates} → r ≡ readOf ed file → r ≡ readOf present file
   read-present e = e ∙ rw p
-
-  pub gate-present : (j : ℕ) {r : GateRecord} → r ≡ recordOf ed file j → r ≡ recordOf present file j
-  gate-present j e = e ∙ rw p
 
 -- none of its questions clears the areas
 pub questions-quiet : (file : List ℕ) → quiet (questions present file) ≡ true

@@ -72,8 +72,8 @@ module _ (ed : Edition) (file : List ℕ) (b : Bytes file) (l : mostReach < leng
   head-no =
       ask-yes _ _ _ (le-leb 4 (length file) (omega arith))
       ∙ four-asked _ _ _ _
-        (λ y. le-leb (headLength (gatesOf file)) (length file) (omega (arith, between-most-true 0 mostGates (gatesOf file) y)))
-        (λ y. fills-no (recordHead ed) file b l (gatesOf file) 0 (headLength (gatesOf file)) (omega (arith, between-most-true 0 mostGates (gatesOf file) y)))
+      (λ y. le-leb (headLength (gatesOf file)) (length file) (omega (arith, between-most-true 0 mostGates (gatesOf file) y)))
+      (λ y. fills-no (recordHead ed) file b l (gatesOf file) 0 (headLength (gatesOf file)) (omega (arith, between-most-true 0 mostGates (gatesOf file) y)))
 
   long : ℕ
   long = longNo ed (numberAt file 0) (numberAt file 2)

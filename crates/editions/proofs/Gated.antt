@@ -13,12 +13,13 @@ use Rattle.lists.proofs.Tabled.{from-step, from-end}
 use Rattle.method.specs.Kinds.{takes}
 use Rattle.method.specs.declared.Kind.{Kind}
 use Rattle.editions.specs.declared.GateRecord.{GateRecord}
-use Rattle.numbers.specs.Numbers.{byteAt}
+use Rattle.numbers.specs.Numbers.{byteAt, numberAt}
 use Rattle.editions.specs.File.{offsetOf, inputsOf, gatesOf, lengthOf, recordHead, recordLength, kindByte, delayAt, delayOf, inertialOf, entriesOf, faninAt, faninsOf, kindOf, recordOf}
-use Rattle.editions.specs.Edition.{delayBytes}
+use Rattle.editions.specs.Edition.{present, delayBytes}
 use Rattle.editions.specs.Limits.{delaysSuit}
 use Rattle.editions.specs.Questions.{lengthSuits, headQuestions, gateQuestions, questions, inputsAndGatesOf, readOf}
 use Rattle.editions.specs.declared.Edition.{Edition}
+use Rattle.editions.proofs.Widths.{two-bytes, head-of-five, wide-delay}
 
 -- question 9, one fan-in after the other: n of them, i passed
 module _ (net n i : ℕ) (f : ℕ → ℕ) {whole : Bool} (h : whole ≡ allBelow net (tabulateFrom (n - i) i f)) where
@@ -188,3 +189,11 @@ module _ (ed : Edition) where
       pub accepted-all : r ≡ 0 → accepted (record { inputs = i; gates = g }) ≡ readOf ed file
       unfolding readOf inputsAndGatesOf
       accepted-all e = rw (rest, a, b) (sym (unless-none r (inputsAndGatesOf ed file) e))
+
+-- a record of the present edition, from the numbers read
+pub present-record : (file : List ℕ) (j : ℕ) {start : ℕ} → start ≡ offsetOf file j → {kind : Kind} {k : ℕ} → kind ≡ kindOf k → k ≡ byteAt file start
+    → {d di : ℕ} → d ≡ numberAt file (start + 1) → di ≡ numberAt file (start + 3) → {m len : ℕ} → m ≡ (len - 5) / 2 → len ≡ lengthOf file j
+    → _≡_ {A = GateRecord} (record { kind = kind; delay = d; inertial = di; list = start + 5; entries = m }) (recordOf present file j)
+present-record file j {start} a k b d di m len =
+    record-is present file j a (head-of-five present refl) (two-bytes present refl) k b (wide-delay present refl file (start + 1) d)
+    (wide-delay present refl file (start + 3) di) m len

@@ -122,6 +122,25 @@ pub fn gate_at(edition: Edition, file: &[u8], j: u16) -> GateRecord
     }
 }
 
+// The same in the present edition, written out: planning and evaluation read each gate's record so.
+pub fn present_gate(file: &[u8], j: u16) -> GateRecord
+    ensures { λ r. ⌜ r ≡ recordOf edition.present (now (file .entry)) j ⌝ }
+{
+    let start = offset_of(file, j);
+    let kind = kind_of(byte_at(file, start as usize));
+    let delay = number_at(file, start as usize + 1) as Tick;
+    let inertial = number_at(file, start as usize + 3) as Tick;
+    let list = start as u32 + 5;
+    let entries = entries_of(length_of(file, j), 5);
+    GateRecord {
+        kind,
+        delay,
+        inertial,
+        list,
+        entries,
+    }
+}
+
 // Entry i of the fan-in list that starts at byte `list`.
 pub fn fanin_at(file: &[u8], list: u32, i: u16) -> Net
     ensures { λ r. ⌜ r .0 ≡ faninAt (now (file .entry)) list i ⌝ }
