@@ -10,6 +10,7 @@ use lib.ListN.{length, drop}
 use lib.Dec.{eqb, leb}
 use borrow.Author.Tests.{eq-eqb, ne-eqb, le-leb, lt-leb, not-true, not-false}
 use Rattle.lists.specs.Ladder.{firstNo, between}
+use Rattle.lists.proofs.Choices.{bool-ext, between-low, between-yes, between-least-true, between-most-true}
 use Rattle.lists.proofs.Ladders.{ask-yes, ask-no, all-asked}
 use Rattle.lists.proofs.Tabled.{one-less}
 use Rattle.numbers.specs.Numbers.{numberAt}
@@ -17,6 +18,18 @@ use Rattle.editions.specs.File.{headLength, offsetOf, lengthOf, recordHe
 use Rattle.editions.specs.Limits.{mostInputs, mostGates}
 use Rattle.editions.specs.Questions.{fills, headQuestions}
 use Rattle.editions.specs.declared.Edition.{Edition}
+
+-- question 2, by what is left of the number held without what the edition adds
+module _ (added held : ℕ) where
+  pub held-low : held < added → false ≡ between (1 + added) (mostInputs + added) held
+  held-low l = sym (between-low (1 + added) (mostInputs + added) held (omega arith))
+
+  pub held-less : added ≤ held → {b : Bool} → b ≡ between 1 mostInputs (held - added) → b ≡ between (1 + added) (mostInputs + added) held
+  held-less l e =
+      e
+      ∙ bool-ext (between 1 mostInputs (held - added)) (between (1 + added) (mostInputs + added) held)
+      (λ y. between-yes (1 + added) (mostInputs + added) held (omega (arith, between-least-true 1 mostInputs (held - added) y)) (omega (arith, between-most-true 1 mostInputs (held - added) y)))
+      (λ y. between-yes 1 mostInputs (held - added) (omega (arith, between-least-true (1 + added) (mostInputs + added) held y)) (omega (arith, between-most-true (1 + added) (mostInputs + added) held y)))
 
 -- one pair of G, j passed
 module _ (least : ℕ) (file : List ℕ) (g j end : ℕ) (l : j < g) {whole : Bool} (h : whole ≡ fills least file (g - j) j end) {start len : ℕ} (a : start ≡ offsetOf file j) (b : len ≡ lengthOf file j) where

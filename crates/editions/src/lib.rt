@@ -25,7 +25,7 @@ use method::Tick;
 use numbers::byte_at;
 use numbers::number_at;
 
-const MOST_INPUTS: Tick = 32;
+const MOST_INPUTS: u16 = 32;
 
 const MOST_GATES: u16 = 128;
 
@@ -172,12 +172,14 @@ fn head_fault(edition: Edition, file: &[u8]) -> u8
     0
 }
 
-// Question 2, of what bytes 0-1 hold. No sum wraps.
+// Question 2, of what bytes 0-1 hold.
 fn inputs_suit(added: u16, held: u16) -> bool
     ensures { λ r. ⌜ r ≡ between (1 + added) (mostInputs + added) held ⌝ }
 {
-    let more = added as Tick;
-    slices::ticks_between(1 + more, MOST_INPUTS + more, held as Tick)
+    if held < added {
+        return false;
+    }
+    slices::is_between(1, MOST_INPUTS, held - added)
 }
 
 // Question 5: whether the pairs' records lie end to end, none shorter than the least length, and fill the file. No sum wraps.
