@@ -85,7 +85,7 @@ def checks(name):
 
 
 wrong = 0
-names = sys.argv[1:] or ['wave', 'convert', 'cases', 'marks', 'outside', 'conversions']
+names = sys.argv[1:] or ['wave', 'convert', 'cases', 'parts', 'marks', 'outside', 'conversions']
 for name in names:
     for what, holds in checks(name):
         if not holds:

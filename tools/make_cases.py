@@ -1,31 +1,37 @@
 #!/usr/bin/env python3
-"""Writes the test programs' input and what they must print: stdin and stdout of crates/cases and of crates/marks.
+"""Writes the test programs' input and what they must print: stdin and stdout of crates/cases, crates/parts and crates/marks.
 
-The tops of crates/cases/src/main.rt, crates/marks/src/main.rt and crates/testbench/src/lib.rt say what a case and its line
-are. What the reader must answer is known by the way a file is made: a circuit within the limits, or one fault put into its
-file, or more, of which the earliest counts. Nothing here reads a file back. What the calls must answer and leave is worked
-out by the papers' rules: Plan net by net, with sets and counts and none of the programs' ways; Run lane by lane, with
-Bools, compared with the time-by-time machine in some lanes of every case at every time of every net; Mark time by time on
-the machine's levels. Run it from the repository's root; building and testing need none of it.
+The tops of their src/main.rt and of crates/testbench/src/lib.rt say what a case and its line are. What the reader must answer
+is known by the way a file is made: a circuit within the limits, or one fault put into its file, or more, of which the earliest
+counts. Nothing here reads a file back. What the calls must answer and leave is worked out by the papers' rules: Plan net by net,
+with sets and counts and none of the programs' ways; Run lane by lane, with Bools, compared with the time-by-time machine in some
+lanes of every case at every time of every net; Mark on the machine's levels, at the first time of a span at which they are
+others. Where times go into millions the machine is asked at the times at which its rule can give something new. Run it from the
+repository's root; building and testing need none of it.
 """
+import bisect
 import collections
 import functools
 import itertools
 import random
 
 rng = random.Random(7)
-cases, marks = [], []  # what the two programs are given, each case as its bytes and its line
+cases, parts, marks = [], [], []  # what the three programs are given, each case as its bytes and its line
 
 
 def two(n):
     return n.to_bytes(2, "little")
 
 
+def four(n):
+    return n.to_bytes(4, "little")
+
+
 class Record(bytes):
     """A gate's record, with what it says beside its bytes."""
 
     def __new__(cls, kind, d, di, fanins):
-        self = super().__new__(cls, bytes([kind, d, di]) + b"".join(two(f) for f in fanins))
+        self = super().__new__(cls, bytes([kind]) + two(d) + two(di) + b"".join(two(f) for f in fanins))
         self.kind, self.d, self.di, self.fanins = kind, d, di, fanins
         return self
 
@@ -36,7 +42,7 @@ def file_of(inputs, records, shift={}, lengths={}, tail=b""):
     for j, r in enumerate(records):
         pairs += two(at + shift.get(j, 0)) + two(lengths.get(j, len(r)))
         at += len(r)
-    return two(inputs) + two(len(records)) + pairs + b"".join(records) + tail
+    return two(256 + inputs) + two(len(records)) + pairs + b"".join(records) + tail
 
 
 # ---- Plan, by the rules
@@ -107,8 +113,43 @@ def evaluate(nets, records, driven):
     return levels
 
 
-def machine(records, moments, driven, until):
-    """The levels of one lane, net by net and time by time, by the machine that knows no frames."""
+class Wave:
+    """The level of a net in a lane at every time: from each of these times on, the first of which is 0, the level beside it. Times
+    at which the level stays are left out."""
+
+    def __init__(self, times, levels):
+        turns = [k for k in range(len(times)) if k == 0 or levels[k] != levels[k - 1]]
+        self.times, self.levels = [times[k] for k in turns], [levels[k] for k in turns]
+
+    def at(self, time):
+        return self.levels[bisect.bisect_right(self.times, time) - 1]
+
+    def first_other(self, level, start, end):
+        """The first time of a span at which the level is another; or nothing."""
+        asked = [start] + [t for t in self.times if start < t <= end]
+        return next((t for t in asked if self.at(t) != level), None)
+
+
+def machine(records, moments, driven):
+    """The waves of one lane, by the machine that knows no frames. A gate's raw level can change only where the level of a fan-in
+    did, d before. Whether it stays for di more can change there too, and di before. So its rule is asked at these times, and
+    from one to the next its answers are the same."""
+    waves = [Wave([0, *times], own) for times, own in zip(moments, driven)]
+    for r in records:
+        output, sources = outputs(r), [waves[f] for f in r.fanins]
+        turns = sorted({0} | {t + r.d for source in sources for t in source.times if t})
+        raw = Wave(turns, [output[sum(source.at(max(t - r.d, 0)) for source in sources)] for t in turns])
+        asked = sorted({t - back for t in raw.times for back in (0, r.di) if t >= back})
+        levels = [raw.at(0)]
+        for t in asked[1:]:
+            steady = raw.first_other(raw.at(t), t, t + r.di) is None
+            levels.append(raw.at(t) if steady else levels[-1])
+        waves.append(Wave(asked, levels))
+    return waves
+
+
+def machine_at_every_time(records, moments, driven, until):
+    """The same, word for word by the papers' rule, at every time up to this one."""
     need = [until] * (len(driven) + len(records))  # the last time to be known of each net
     for j in reversed(range(len(records))):
         for f in records[j].fanins:
@@ -122,6 +163,9 @@ def machine(records, moments, driven, until):
             wave.append(raw[t] if len(set(raw[t:t + r.di + 1])) == 1 else wave[-1])
         waves.append(wave)
     return [wave[:until + 1] for wave in waves]
+
+
+LITERAL = 10**8  # how many times the rule at every time may look at; enough for all delays up to 63
 
 
 class Run:
@@ -152,11 +196,16 @@ class Run:
         return [[word >> lane & 1 == 1 for word in own] for own in words]
 
     def wave(self, net, lane):
-        """The levels of a net in a lane by the machine, until after the last potential time. Every net has to agree."""
+        """The levels of a net in a lane by the machine. Every net's frames have to agree with it; and where that is no long way
+        to go, both with its rule at every time until after the last potential one."""
         if lane not in self.waves:
-            self.waves[lane] = machine(self.records, self.moments, self.driven(lane), self.last + 1)
+            driven = self.driven(lane)
+            self.waves[lane] = machine(self.records, self.moments, driven)
             for times, levels, wave in zip(self.times, self.lanes[lane], self.waves[lane]):
-                assert wave == [level_at(times, levels, t) for t in range(self.last + 2)]
+                assert all(wave.at(t) == level_at(times, levels, t) for t in {*times, *wave.times})
+            if sum((self.last + r.di) * (r.di + 1) for r in self.records) <= LITERAL:
+                every = machine_at_every_time(self.records, self.moments, driven, self.last + 1)
+                assert every == [[wave.at(t) for t in range(self.last + 2)] for wave in self.waves[lane]]
         return self.waves[lane][net]
 
 
@@ -195,16 +244,16 @@ def suits(expectation, nets):
 def verdict(run, expectations):
     """The first expectation with a time at which the level is another, and the frame that holds the first such time."""
     for position, (net, lane, start, end, expected) in enumerate(expectations):
-        wave = run.wave(net, lane)
-        for t in range(start, end + 1):
-            if wave[min(t, run.last + 1)] != (expected == 1):
-                return f"unmet {position} {sum(s <= t for s in run.times[net]) - 1}"
+        t = run.wave(net, lane).first_other(expected == 1, start, end)
+        if t is not None:
+            return f"unmet {position} {sum(s <= t for s in run.times[net]) - 1}"
     return "all met"
 
 
 # ---- sums of areas
 
 RIGHT = (320, 2048, 2048, 16384, 2048)
+PIECES = (1, 2, 1, 1, 4)  # how many two-byte pieces a number of each area has
 MOST = 2048  # the largest limit on the frame total
 
 
@@ -214,9 +263,14 @@ def summed(numbers, s=0):
     return s
 
 
+def in_pieces(numbers, count):
+    """The two-byte pieces of numbers, so many of each, the lowest first."""
+    return [number >> 16 * k & 65535 for number in numbers for k in range(count)]
+
+
 @functools.lru_cache(None)
-def rubbish_sum(length, rubbish, quarters):
-    return summed((rubbish + 257 * k) % 65536 for k in range(length) for _ in range(quarters))
+def rubbish_sum(length, rubbish, pieces):
+    return summed((rubbish + 257 * k) % 65536 for k in range(length) for _ in range(pieces))
 
 
 def zeros(s, n):
@@ -226,13 +280,12 @@ def zeros(s, n):
 
 
 def filled(lengths, rubbish):
-    return [rubbish_sum(n, rubbish, 4 if k == 4 else 1) for k, n in enumerate(lengths)]
+    return [rubbish_sum(n, rubbish, pieces) for n, pieces in zip(lengths, PIECES)]
 
 
 def left(areas):
     """The sums of areas of the right lengths with these contents, and zeros behind."""
-    sizes = [n * (4 if k == 4 else 1) for k, n in enumerate(RIGHT)]
-    return [zeros(summed(area), n - len(area)) for area, n in zip(areas, sizes)]
+    return [zeros(summed(in_pieces(area, each)), each * (n - len(area))) for area, n, each in zip(areas, RIGHT, PIECES)]
 
 
 CLEARED = left([[]] * 5)
@@ -272,8 +325,7 @@ def sums_after(run, fault, untouched):
     """What Run leaves, with the number of its first "no"."""
     if fault:
         return CLEARED if fault in (13, 22) else untouched
-    quarters = [word >> shift & 65535 for net in run.values for word in net for shift in (0, 16, 32, 48)]
-    return left(run.plan[1] + [quarters])
+    return left(run.plan[1] + [[word for net in run.values for word in net]])
 
 
 def lanes_seen(run, net, time):
@@ -317,15 +369,15 @@ def add(file, number, inputs, run, limit=MOST, lengths=RIGHT, rubbish=None, net=
         marked_only=False):
     """A case with a circuit, for both programs: the reader's number, or 0 with the inputs and the run of an accepted file."""
     rubbish = rng.randrange(65536) if rubbish is None else rubbish
-    head = len(file).to_bytes(4, "little") + b"".join(map(two, lengths)) + two(rubbish) + two(limit)
+    head = four(len(file)) + b"".join(map(two, lengths)) + two(rubbish) + two(limit)
     head += bytes([len(run.counts)]) + two(len(run.changes)) + bytes([len(run.before)]) + two(len(run.after))
-    data = file + bytes(run.counts) + b"".join(map(two, run.changes))
+    data = file + bytes(run.counts) + b"".join(map(four, run.changes))
     data += b"".join(word.to_bytes(8, "little") for word in run.before + run.after)
-    records = b"".join(two(n) + bytes([l]) + two(a) + two(b) + bytes([x]) for n, l, a, b, x in expectations)
+    records = b"".join(two(n) + bytes([l]) + four(a) + four(b) + bytes([x]) for n, l, a, b, x in expectations)
     marks.append((bytes([len(expectations)]) + head + data + records,
                   mark_line(number, inputs, run, limit, lengths, rubbish, expectations)))
     if not marked_only:
-        cases.append((b"c" + two(net) + two(time) + head + data,
+        cases.append((two(net) + four(time) + head + data,
                       "; ".join(case_line(number, inputs, run, limit, lengths, rubbish, net, time))))
 
 
@@ -352,12 +404,11 @@ def some_expectations(run, most, lanes):
     for _ in range(rng.randint(0, most)):
         net, lane = rng.randrange(len(run.nets)), rng.choice(lanes)
         wave, start = run.wave(net, lane), rng.randrange(run.last + 2)
-        end = start
-        while end <= run.last and wave[end + 1] == wave[start]:
-            end += 1
+        level = wave.at(start)
+        end = (wave.first_other(level, start, run.last + 1) or run.last + 2) - 1
         if end == run.last + 1 and rng.random() < 0.5:
             end = rng.choice([65535, run.last + rng.randint(1, 100)])
-        out.append((net, lane, start, max(start, end - rng.choice([0, 0, 1])), int(wave[start]) ^ (rng.random() < 0.08)))
+        out.append((net, lane, start, max(start, end - rng.choice([0, 0, 1])), int(level) ^ (rng.random() < 0.08)))
         if rng.random() < 0.05:
             out[-1] = (net, lane, max(0, start - rng.randint(0, 9)), end, out[-1][4])
     return out
@@ -389,10 +440,10 @@ def bad(data, number, **more):
 
 
 def look(times, values, lane, time):
-    """A case of kind `l`: parts of a net that no run made."""
-    data = b"l" + bytes([len(times), len(values), lane]) + two(time)
-    data += b"".join(map(two, times)) + b"".join(value.to_bytes(8, "little") for value in values)
-    cases.append((data, f"{level_of(times, values, lane, time)}; {count_of(times, values, lane)}"))
+    """A case of parts of a net that no run made."""
+    data = bytes([len(times), len(values), lane]) + four(time)
+    data += b"".join(map(four, times)) + b"".join(value.to_bytes(8, "little") for value in values)
+    parts.append((data, f"{level_of(times, values, lane, time)}; {count_of(times, values, lane)}"))
 
 
 BUF, NOT, AND, NAND, OR, NOR, XOR, XNOR = range(8)
@@ -402,37 +453,37 @@ buf = Record(BUF, 1, 0, [0])
 # ---- the reader's questions: 1 to 4
 
 for n in range(4):
-    bad((two(1) + two(0))[:n], 1)
-for i in (0, 33, 256, 65535):  # bench sheet, Others: I = 0 and 33 give 2
+    bad(file_of(1, [])[:n], 1)
+for i in (0, 33, 256, 65279):  # bench sheet, Others: I = 0 and 33 give 2
     bad(file_of(i, []), 2)
 for i in (1, 2, 31, 32):
     good(i, [])
 for g in (129, 256, 65535):  # bench sheet, Others: G = 129 gives 3
-    bad(two(1) + two(g) + bytes(4 * 129), 3)
-bad(two(0) + two(129), 2)
-bad(two(1) + two(129), 3)
-bad(two(1) + two(1), 4)
-bad(two(1) + two(1) + bytes(3), 4)
-bad(two(1) + two(128) + bytes(4 * 128 - 1), 4)
-bad(two(1) + two(128) + bytes(4 * 128), 5)
+    bad(two(257) + two(g) + bytes(4 * 129), 3)
+bad(two(256) + two(129), 2)
+bad(two(257) + two(129), 3)
+bad(two(257) + two(1), 4)
+bad(two(257) + two(1) + bytes(3), 4)
+bad(two(257) + two(128) + bytes(4 * 128 - 1), 4)
+bad(two(257) + two(128) + bytes(4 * 128), 5)
 
 # question 5
 bad(file_of(1, [], tail=b"\0"), 5)
 good(1, [buf])
 bad(file_of(1, [buf], shift={0: 1}), 5)
 bad(file_of(1, [buf], shift={0: -1}), 5)
-bad(file_of(1, [buf], lengths={0: 4}), 5)
+bad(file_of(1, [buf], lengths={0: 6}), 5)
 bad(file_of(1, [buf], tail=b"\0"), 5)
 bad(file_of(1, [buf])[:-1], 5)
 bad(file_of(1, [buf, buf], shift={1: 1}), 5)
-bad(file_of(1, [buf, buf], lengths={0: 6}), 5)
-bad(two(1) + two(1) + two(8) + two(2) + bytes(2), 5)
-bad(two(1) + two(2) + two(12) + two(0) + two(12) + two(5) + buf, 5)
+bad(file_of(1, [buf, buf], lengths={0: 8}), 5)
+bad(two(257) + two(1) + two(8) + two(4) + bytes(4), 5)
+bad(two(257) + two(2) + two(12) + two(0) + two(12) + two(7) + buf, 5)
 # offset and length add up to more than two bytes hold: the sum is 65,543, the file's length, so question 8 is reached
-long = Record(AND, 1, 0, [0] * 32766)
+long = Record(AND, 1, 0, [0] * 32765)
 bad(file_of(1, [long]), 8)
 # a sum cut to two bytes would be 7
-bad(two(1) + two(1) + two(8) + two(65535) + buf[:-1], 5)
+bad(two(257) + two(1) + two(8) + two(65535) + buf[:-1], 5)
 
 # questions 6 to 9, each kind with each number of fan-ins
 for kind in range(8):
@@ -447,7 +498,7 @@ for kind in range(8):
 for kind in (8, 9, 128, 255):
     bad(file_of(1, [Record(kind, 1, 0, [0])]), 6)
 # bench sheet, Others: d = 0 gives 7
-for d, di in ((0, 0), (64, 0), (255, 0), (1, 64), (63, 255), (0, 64)):
+for d, di in ((0, 0), (60001, 0), (65535, 0), (1, 60001), (60000, 65535), (0, 60001)):
     bad(file_of(1, [Record(BUF, d, di, [0])]), 7)
 for d, di in ((1, 0), (63, 0), (1, 63), (63, 63)):
     good(1, [Record(BUF, d, di, [0])])
@@ -460,12 +511,12 @@ good(1, [buf, Record(AND, 1, 0, [1, 1])])
 bad(file_of(1, [buf, Record(AND, 1, 0, [1, 2])]), 9)
 
 # several faults: an earlier question or an earlier gate wins
-bad(file_of(1, [Record(8, 0, 64, [1])]), 6)
+bad(file_of(1, [Record(8, 0, 60001, [1])]), 6)
 bad(file_of(1, [Record(AND, 0, 0, [1])]), 7)
 bad(file_of(1, [Record(AND, 1, 0, [1])]), 8)
 bad(file_of(1, [Record(NOT, 1, 0, [1]), Record(8, 0, 0, [0])]), 9)
 bad(file_of(1, [Record(8, 1, 0, [0])], tail=b"\0"), 5)
-bad(file_of(1, [buf, Record(BUF, 64, 0, [9]), Record(8, 1, 0, [0])]), 7)
+bad(file_of(1, [buf, Record(BUF, 60001, 0, [9]), Record(8, 1, 0, [0])]), 7)
 
 # ---- the bench sheet's rows: fan-in times {0,3,4} and {0,2,6}, d = 3, di = 2 (rows A to C)
 good(1, [Record(BUF, 1, 0, [0]), Record(BUF, 2, 0, [0]), Record(BUF, 3, 0, [0]), Record(BUF, 4, 0, [0]),
@@ -636,7 +687,7 @@ def mark(inputs, records, words, expectations, **more):
 def spans(run, net, lane):
     """The frames of a net in a lane: from, to and level of each; the last ends with the last time there is."""
     ends = [t - 1 for t in run.times[net][1:]] + [65535]
-    return [(start, end, int(run.wave(net, lane)[start])) for start, end in zip(run.times[net], ends)]
+    return [(start, end, int(run.wave(net, lane).at(start))) for start, end in zip(run.times[net], ends)]
 
 
 marked = pulses(1)
@@ -676,14 +727,14 @@ mark(1, marked, marked_words, [(net, lane, 0, 65535, final)])
 mark(1, marked, marked_words, [(net, lane, 0, 65535, 1 - final)])
 # more than one is not met: the first counts, also where its frame is later or its net is
 mark(1, marked, marked_words, [met[0], broken(met[40]), broken(met[2]), broken(met[1])])
-mark(1, marked, marked_words, [(0, lane, 0, 0, int(marked_run.wave(0, lane)[0])), broken(met[48]), (0, lane, 0, 65535, 0)])
+mark(1, marked, marked_words, [(0, lane, 0, 0, int(marked_run.wave(0, lane).at(0))), broken(met[48]), (0, lane, 0, 65535, 0)])
 mark(1, marked, marked_words, [broken(met[9])] * 12)
 # inputs, and each lane by its own bits
 for l in (0, 1, 31, 32, 62, 63):
-    first = int(marked_run.wave(0, l)[0])
+    first = int(marked_run.wave(0, l).at(0))
     mark(1, marked, marked_words, [(0, l, 0, 0, first), (0, l, 1, 65535, 1 - first)])
     mark(1, marked, marked_words, [(0, l, 0, 0, first), (0, l, 1, 9, first)])
-    mark(1, marked, marked_words, [(net, l, 0, 65535, int(marked_run.wave(net, l)[-1]))])
+    mark(1, marked, marked_words, [(net, l, 0, 65535, int(marked_run.wave(net, l).at(last)))])
 # document 01's example: the level holds over frames that do not change it
 mark(1, wave_circuit(2), ([0], [1]), [(2, 0, 0, 65535, 0), (1, 0, 0, 2, 1), (1, 0, 3, 65535, 0), (1, 0, 2, 3, 0)])
 mark(1, wave_circuit(1), ([0], [1]), [(2, 0, 0, 1, 0), (2, 0, 2, 3, 1), (2, 0, 4, 9, 0), (2, 0, 1, 3, 1)])
@@ -737,7 +788,7 @@ for turn in range(40):
     place = rng.randrange(len(fanins))
     c[j] = {
         6: [rng.randint(8, 255), d, di, fanins],
-        7: [kind, rng.choice([0, 64]), di, fanins],
+        7: [kind, rng.choice([0, 60001]), di, fanins],
         8: [kind, d, di, fanins[:1] * (2 if kind < 2 else rng.choice([1, 9]))],
         9: [kind, d, di, fanins[:place] + [inputs + j] + fanins[place + 1:]],
     }[fault]
@@ -872,7 +923,7 @@ for lane in (0, 17, 63):
         for words in (lists, others):
             good(3, gates, *words, moments, net=net, time=35)
     ran, again = (Run(3, gates, *words, list(map(len, moments)), [*itertools.chain(*moments)]) for words in (lists, others))
-    assert not ran.plan or [ran.wave(net, lane) for net in range(18)] == [again.wave(net, lane) for net in range(18)]
+    assert not ran.plan or all(ran.wave(net, lane).at(t) == again.wave(net, lane).at(t) for net in range(18) for t in range(99))
 
 
 # ---- question 20, and its place among the others
@@ -973,7 +1024,7 @@ for words in (ticking, lanes_apart):
                 good(3, carry, *words, bits, expectations=((net, lane, a, b, level),), marked_only=True)
 for before in (0, 2**64 - 1):  # no changes: one frame on each net, without an end
     for net in (0, 3, 4, 7):
-        level = int(Run(3, carry, [before] * 3, [], [0] * 3, []).wave(net, 63)[0])
+        level = int(Run(3, carry, [before] * 3, [], [0] * 3, []).wave(net, 63).at(0))
         for a, b in ((0, 0), (0, 65535), (65535, 65535)):
             for expected in (level, 1 - level):
                 good(3, carry, [before] * 3, [], [[]] * 3, expectations=((net, 63, a, b, expected),), marked_only=True)
@@ -1039,8 +1090,8 @@ for rubbish in (0, 1, 255, 32768, 65279, 65535):
 # each other question fails before 22 is asked, whatever is wrong with the limit
 wrong_limits = itertools.cycle(SENSELESS + [1])
 for number, data in (
-        (1, b""), (2, file_of(33, [buf])), (3, two(1) + two(129) + bytes(4 * 129)), (4, two(1) + two(1) + bytes(3)),
-        (5, file_of(1, [buf], tail=b"\0")), (6, file_of(1, [Record(8, 1, 0, [0])])), (7, file_of(1, [Record(BUF, 64, 0, [0])])),
+        (1, b""), (2, file_of(33, [buf])), (3, two(257) + two(129) + bytes(4 * 129)), (4, two(257) + two(1) + bytes(3)),
+        (5, file_of(1, [buf], tail=b"\0")), (6, file_of(1, [Record(8, 1, 0, [0])])), (7, file_of(1, [Record(BUF, 60001, 0, [0])])),
         (8, file_of(1, [Record(NOT, 1, 0, [0, 0])])), (9, file_of(1, [Record(NOT, 1, 0, [1])]))):
     for limit in (0, next(wrong_limits)):
         add(data, number, 0, Words(random_words(1), random_words(1)), limit=limit)
@@ -1073,6 +1124,215 @@ for turn in range(24):
     total = total_of(inputs, gates, moments)
     under([rng.choice(near(total)), rng.randint(1, 2 * total), rng.randrange(65536)][turn % 2:], inputs, gates, moments)
 
+# ---- the edition: delays of two bytes, times of four, and I + 256 in front
+
+END = 2**32 - 1  # the last time that there is
+
+
+def former(inputs, records):
+    """The file of the same circuit in the former edition."""
+    rows = [bytes([r.kind, r.d, r.di]) + b"".join(map(two, r.fanins)) for r in records]
+    at, pairs = 4 + 4 * len(rows), b""
+    for row in rows:
+        pairs += two(at) + two(len(row))
+        at += len(row)
+    return two(inputs) + two(len(rows)) + pairs + b"".join(rows)
+
+
+# question 2: a file of the former edition, the numbers beside the least and the greatest, and those with the bytes exchanged
+for number in (0, 1, 2, 31, 32, 33, 255, 256, 289, 290, 511, 513, 544, 2 * 256 + 1, 32 * 256 + 1, 65535):
+    bad(two(number) + two(0), 2)
+for inputs, gates in ((1, wave_circuit(1)), (2, small), (32, wide), (1, comb(64)), (1, [Record(8, 0, 0, [9])])):
+    bad(former(inputs, gates), 2)
+bad(two(1) + file_of(1, wave_circuit(1))[2:], 2)
+for inputs in (1, 32):
+    good(inputs, [Record(BUF, 64, 0, [inputs - 1]), Record(NOT, 60000, 60000, [0])])
+
+# question 5: records of under 5 bytes, first and last, and pairs whose sum is the file's length if it is cut to two bytes
+for length in range(5):
+    bad(two(257) + two(1) + two(8) + two(length) + bytes(length), 5)
+    bad(two(257) + two(2) + two(12) + two(7) + two(19) + two(length) + buf + bytes(length), 5)
+bad(two(257) + two(2) + two(12) + two(65000) + two(65012) + two(560) + bytes(36 - 12), 5)
+# question 8: a record of the former edition, which is 2 bytes shorter, and all lengths around the right ones
+for kind in (NOT, AND, XNOR):
+    for m in (1, 2, 8):
+        record = bytes([kind, 1, 0]) + bytes(2 * m)
+        right = m - 1 == 1 if kind < 2 else 2 <= m - 1 <= 8
+        if right:  # it is the record of a circuit with a fan-in less
+            good(1, [Record(kind, 1, 0, [0] * (m - 1))])
+        else:
+            bad(file_of(1, [record]), 8)
+        whole = Record(kind, 1, 0, [0] * m)
+        for at in (len(whole) - 1, len(whole) + 1):
+            bad(file_of(1, [(whole + b"\0")[:at]]), 8)
+for kind in range(8):
+    bad(file_of(1, [Record(kind, 1, 0, []) + b"\0"]), 8)
+
+# question 7: both bytes of both delays
+for d in (63, 64, 255, 256, 257, 511, 512, 59999, 60000):
+    good(1, [Record(NOT, d, 0, [0])], net=1, time=1 + d)
+    good(1, [buf, Record(XOR, 1, d, [0, 1])])
+    good(2, [Record(BUF, 1, 60000, [1]), Record(OR, d, 60000 - d, [0, 2])], net=3, time=d)
+for d, di in ((0, 256), (0, 60000), (60002, 0), (60160, 0), (61440, 0), (65280, 0), (1, 60001), (256, 60160), (60000, 65280),
+              (60001, 60001)):
+    bad(file_of(1, [Record(NOT, d, di, [0])]), 7)
+    bad(file_of(1, [Record(NOT, 60000, 60000, [0]), Record(AND, d, di, [0, 1])]), 7)
+bad(file_of(1, [Record(9, 60001, 0, [0])]), 6)
+bad(file_of(1, [Record(NOT, 60001, 0, [0, 0])]), 7)
+bad(file_of(1, [Record(NOT, 60000, 0, [1]), Record(NOT, 0, 60001, [0])]), 9)
+
+
+def beside(times):
+    """These times, those just before and just behind, and what two bytes hold of them."""
+    near = {t + off for t in times for off in (-1, 0, 1)} | {t % 65536 for t in times} | {65535, 65536, END}
+    return sorted(t for t in near if 0 <= t <= END)
+
+
+def close_expectations(run, most, lanes):
+    """Most are met: spans that begin and end where a frame of the net does, or just beside."""
+    out = []
+    for _ in range(rng.randint(1, most)):
+        net, lane = rng.randrange(len(run.nets)), rng.choice(lanes)
+        times = run.times[net]
+        k = rng.randrange(len(times))
+        start, end = times[k], (times[k + 1:] + [END + 1])[0] - 1
+        if rng.random() < 0.1:
+            start, end = max(0, start - rng.randint(0, 1)), min(END, end + rng.randint(0, 1))
+        elif rng.random() < 0.5:
+            start, end = rng.choice([(start, start), (end, end), (max(start, end - 65536), end)])
+        out.append((net, lane, start, end, int(run.lanes[lane][net][k]) ^ (rng.random() < 0.1)))
+    return out
+
+
+def far(inputs, records, moments=None, words=None, looks=1, **more):
+    """A circuit with late times, looked at beside the times of a net's frames, and expectations that begin and end there."""
+    moments = moments or once(inputs)
+    lists = [*map(len, moments)], [*itertools.chain(*moments)]
+    words = words or (random_words(inputs), random_words(len(lists[1])))
+    run = run_of(inputs, tuple(records), *map(tuple, words + lists))
+    for _ in range(looks):
+        net = max(0, len(run.nets) - 1 - rng.choice([0, 0, 0, 1, 2]))
+        if run.plan:
+            more["expectations"] = close_expectations(run, 12, rng.sample(range(64), 2))
+        good(inputs, records, *words, moments, net=net, time=rng.choice(beside(run.times[net])), **more)
+
+
+# a chain of 128 gates of the longest delay, to the last time that any circuit has, 255 + 128 * 60,000
+for di in (0, 1, 60000):
+    chain = [Record(NOT if j % 3 else BUF, 60000, di, [j]) for j in range(128)]
+    far(1, chain, [[255]], looks=2)
+    far(1, chain, [[1, 2, 4, 8, 16, 32, 128, 255]], looks=2)
+    far(1, chain, [[]])
+assert Run(1, chain, [0], [1], [1], [255]).last == 7680255
+for time in (65535, 65536, 7680254, 7680255, 7680256, 7680255 % 65536, 2**24, 2**31 - 1, 2**31, END):
+    good(1, chain, [0], [2**64 - 1], [[255]], net=128, time=time, expectations=((128, 0, 7680255, END, 1), (128, 0, 0, time, 0)))
+far(32, [Record(AND, 60000, 60000, [31 + j] * 8) for j in range(128)], [[]] * 31 + [[255]])
+
+# nets whose times are equal, or in another order, in their lower halves
+late = [Record(BUF, 60000, 0, [0]), Record(BUF, 5536, 0, [1])]  # 65,536 later
+for kind in (AND, OR, XOR, NOR):
+    far(1, late + [Record(BUF, 1, 0, [2]), Record(kind, 3, 0, [0, 2, 3])], looks=3)
+    far(1, late + [Record(kind, 3, 0, [0, 2]), Record(NOT, 60000, 65536 - 60000, [3])], [[1, 2]], looks=3)
+far(1, late + [Record(BUF, 60000, 0, [2]), Record(BUF, 5536, 0, [3]), Record(XOR, 1, 0, [0, 2, 4]), Record(XOR, 2, 1, [5, 5, 0])],
+    looks=3)
+for d in (5534, 5535, 5536, 5537):  # the last frame at 65,534 to 65,538
+    far(1, [Record(NOT, 60000, 0, [0]), Record(BUF, d, 0, [1]), Record(XOR, 1, 0, [0, 2])], words=([0], [2**64 - 1]), looks=3)
+
+
+def long_pulse(width, di):
+    """A pulse so long behind an inertial delay."""
+    steps = [60000] * ((width - 1) // 60000)
+    gates = [Record(BUF, d, 0, [j]) for j, d in enumerate(steps + [width - sum(steps)])]
+    gates += [Record(XOR, 7, 0, [0, len(gates)]), Record(BUF, 60000, di, [len(gates) + 1])]
+    assert evaluate(frames(once(1), gates), gates, [(False, True)])[-1] == [False, width > di, False]
+    return gates
+
+
+for width in (63, 64, 255, 256, 257, 59999, 60000, 60001, 65535, 65536, 65537, 65599, 120000):
+    for di in sorted({0, min(width - 1, 60000), min(width, 60000), width % 65536 if width % 65536 <= 60000 else 1}):
+        far(1, long_pulse(width, di), words=([0x5555555555555555], [0x3333333333333333]))
+# how many frames follow within di: steps of 20,000, of which three are 60,000
+stairs = [Record(BUF, 20000, 0, [j]) for j in range(7)]
+for di in (19999, 20000, 39999, 40000, 59999, 60000):
+    far(1, stairs + [Record(XOR, 1, di, [*range(8)])], words=([0], [2**64 - 1]))
+    far(1, stairs + [Record(AND, 60000, di, [*range(8)])], [[1, 255]])
+
+
+def sheet(inputs, gates, span, delays):
+    """Few fan-ins, from the nets just before, with any of these delays."""
+    records = []
+    for net in range(inputs, inputs + gates):
+        nets = range(max(0, net - span), net)
+        kind = rng.choice([0, 1, 2, 3, 4, 5, 6, 6, 7, 7]) if len(nets) > 2 else BUF
+        fanins = rng.sample(nets, 1 if kind < 2 else rng.choice([2, 2, 2, 3]))
+        records.append(Record(kind, rng.choice(delays), rng.choice([0, 0, *(d // 2 for d in delays), *delays]), fanins))
+    return records
+
+
+SHEETS = [[1200, 1450, 2400], [60000, 59999, 30000], [256, 512, 768, 1], [5536, 60000, 5535, 1], [300, 20000, 40000, 60000]]
+for size in ((1, 12, 4), (2, 16, 6), (3, 20, 8), (4, 40, 10), (8, 60, 30)):
+    for delays in SHEETS:
+        far(size[0], sheet(*size, delays))
+        far(size[0], sheet(*size, delays), bursts(size[0], 3, rng.choice([9, 255])))
+for turn in range(30):
+    inputs, gates = rng.choice([1, 2, 5, 32]), rng.choice([1, 2, 3, 8, 24])
+    gates = [Record(kind, rng.randint(1, 60000), rng.randint(0, 60000), fanins) for kind, _, _, fanins in circuit(inputs, gates)]
+    far(inputs, gates, bursts(inputs, rng.choice([2, 8]), 255) if turn % 2 else None)
+# 13 and 22 where the delays are long: 64 frames and 65, and limits beside a total
+for n in (64, 65):
+    gates = [Record(g.kind, 900 * g.d, 900 * g.di, g.fanins) for g in comb(n)]
+    far(1, gates)
+    near_total(1, gates)
+near_total(1, chain[:20], [[1, 255]])
+
+# question 20: change times that are right in their lower half, or in their lowest byte
+for place in range(3):
+    for time in (256, 257, 259, 65536, 65537, 65545, 65791, 2**24 + 3, 2**31 + 3, END - 255, END):
+        changes = [3, 9, 1]
+        changes[place] = time
+        handed(2, small, [2, 1], changes)
+handed(2, small, [2, 1], [65539, 65545, 65537])
+handed(2, small, [2, 1], [3, 65538, 1])
+handed(2, crowded, [2, 1], [3, 65545, 1], expectations=[(65535, 64, 1, 0, 2)], limit=0)
+
+# Mark: spans above 65,535, and question 12 where from and to are in another order in their lower halves
+pulse = [Record(NOT, 60000, 0, [0]), Record(BUF, 60000, 59999, [1]), Record(AND, 10000, 9999, [0, 2])]
+words = ([0], [2**64 - 1])
+run = Run(1, pulse, *words)
+assert run.times[3] == [0, 10001, 130001] and [run.wave(3, 9).at(t) for t in run.times[3]] == [False, True, False]
+for start, end in ((0, 10000), (10001, 130000), (130001, END), (65536, 130000), (65535, 65536), (130000, 130000), (130001, 130001),
+                   (130000, 130001), (10000, 10001), (0, END), (END, END), (2**31, END), (1000, 66000), (66000, 66001),
+                   (75537, 75537), (64464, 64465), (195537, 195537), (10001, 65536 + 10000), (130001 - 65536, 130001)):
+    for level in (0, 1):
+        mark(1, pulse, words, [(3, 9, start, end, level)])
+for start, end in ((1, 0), (65536, 65535), (65537, 65536), (65536, 0), (65537, 1), (131072, 65536), (END, END - 1), (END, 0),
+                   (2**31, 2**31 - 1), (2**24, 65535), (70000, 66000)):
+    mark(1, pulse, words, [(3, 9, start, end, 0)])
+    mark(1, pulse, words, [(3, 9, 0, 0, 1), (3, 9, start, end, 1)])
+    mark(1, pulse, words, [(3, 9, end, start, 0)])
+for net in range(4):  # every frame of every net, met and then not met in turn
+    whole = [(net, 9, start, END if end == 65535 else end, level) for start, end, level in spans(run, net, 9)]
+    mark(1, pulse, words, whole)
+    for k in range(len(whole)):
+        mark(1, pulse, words, whole[:k] + [broken(whole[k])] + whole[k + 1:])
+
+# Level and Count on parts with times of four bytes: low halves that are equal, 0, or in another order
+for times in ([0, 65536], [0, 65536, 65537], [0, 5, 65541], [0, 65535, 65536], [0, 70000, 131072], [0, 10, 65546, 131082], [0, END],
+              [0, END - 1, END], [0, 2**31 - 1, 2**31, 2**31 + 1], [0, 255, 256, 65791, 2**24, 2**24 + 256], [0, 7680255]):
+    for time in beside(times):
+        look(times, random_words(len(times)), 63, time)
+for times in ([65536], [65536, 65537], [END], [0, 65536, 65536], [0, 65537, 65536], [0, 131072, 65536], [0, 70000, 5],
+              [0, 70000, 69999], [0, 2**31, 2**31 - 1], [0, 65536, 0], [0, END, END], [0, END, 1], [0, 2**24 + 1, 2**24],
+              [1, 65536]):
+    for lane in (0, 64):
+        look(times, random_words(len(times)), lane, 65536)
+look([65536 * k for k in range(64)], random_words(64), 17, 40 * 65536 - 1)
+look([65536 * k for k in range(63)] + [61 * 65536], random_words(64), 17, END)
+for turn in range(60):
+    n = rng.choice([2, 3, 8, 40, 64])
+    times = [0] + sorted(rng.sample(range(1, rng.choice([2**18, 7680256, 2**32])), n - 1))
+    look(times, random_words(n), rng.randrange(64), rng.choice(beside(times)))
+
 # ---- written out; a last case that the program's buffers do not hold ends each run
 
 
@@ -1086,11 +1346,13 @@ def write(program, made, too_large):
 
 
 lengths = b"".join(map(two, RIGHT))
-write("cases", cases, b"c" + bytes(4) + (70001).to_bytes(4, "little") + lengths + bytes(10))  # a file of 70,001 bytes
-write("marks", marks, b"\x0d" + (4).to_bytes(4, "little") + lengths + bytes(10))  # 13 expectations
+write("cases", cases, bytes(6) + four(70001) + lengths + bytes(10))  # a file of 70,001 bytes
+write("parts", parts, bytes([81, 1, 0]) + four(0))  # 81 times
+write("marks", marks, b"\x0d" + four(4) + lengths + bytes(10))  # 13 expectations
 
-lines = [line for data, line in cases if data[:1] == b"c"]
-print("cases:", len(lines), "circuits,", sum("; planned" in line for line in lines), "planned,",
-      *(f"{sum(f'refused {n} ' in line for line in lines)} with {n}," for n in (13, 22)), len(cases) - len(lines), "looks")
+lines = [line for _, line in cases]
+print("cases:", len(cases), "circuits,", sum("; planned" in line for line in lines), "planned,",
+      ", ".join(f"{sum(f'refused {n} ' in line for line in lines)} with {n}" for n in (13, 22)))
+print("parts:", len(parts), "looks,", sum("refused" in line for _, line in parts), "refused")
 verdicts = collections.Counter(" ".join(line.split()[:2]) if line[0] != "u" else "unmet" for _, line in marks)
 print("marks:", len(marks), "circuits;", ", ".join(f"{n} {answer}" for answer, n in sorted(verdicts.items())))

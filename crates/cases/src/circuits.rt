@@ -1,6 +1,5 @@
-// A case of kind `c`: a circuit with its words, and the calls on it, each in areas of its own.
+// A case: a circuit with its words, and the calls on it, each in areas of its own.
 use crate::nets::Look;
-use crate::nets::read_look;
 use crate::nets::show_net;
 use crate::print::show_planning;
 use crate::print::show_reading;
@@ -30,10 +29,9 @@ use testbench::times_length;
 use testbench::values_length;
 
 // False where the case is cut short or too large, and nothing is printed; and where its line cannot be written.
-pub(crate) fn circuit_case() -> bool {
-    let look = read_look();
+pub(crate) fn circuit_case(look: Look) -> bool {
     let case = read_case();
-    if !(look.whole && case.whole) {
+    if !case.whole {
         return false;
     }
     let head = case.head;

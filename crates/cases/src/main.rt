@@ -1,8 +1,8 @@
-// The test program. Standard input is a stream of cases of any length, standard output has a line a case. Numbers of more
-// than one byte are little-endian. The first byte of a case says what it is.
+// The test program of the reader, Plan and Run, and of Level and Count after a run. Standard input is a stream of cases of any
+// length, standard output has a line a case. Numbers of more than one byte are little-endian.
 //
-// `c`, the calls on a circuit. First a net (2) and a time (2), then a circuit with the caller's limit, its change times and its
-// words, as the top of crates/testbench/src/lib.rt describes it. The line has, with a semicolon between them:
+// A case begins with a net (2) and a time (4). Then comes a circuit with the caller's limit, its change times and its words, as
+// the top of crates/testbench/src/lib.rt describes it. The line has, with a semicolon between them:
 // - what the reader answers, `accepted` with I and G;
 // - what Plan answers, `planned` with the frame total, the fan-in total and the last potential time, and behind it a sum of
 //   each of its four areas as it leaves them;
@@ -14,22 +14,18 @@
 // In each place `refused` with its number stands for a refusal. How areas are filled before a call and how numbers are summed
 // stands in the same place.
 //
-// `l`, a look at parts that no run made. First 5 bytes: how many times and how many values (1 each), a lane (1) and a time
-// (2). Then the times (2 each) and the values (8 each). The line has what Level answers, the level, when its frame began, and
-// when the next begins, or `no end`; and what Count answers, a number; or for each `refused` with the number.
-//
-// The program stops at the end of the input. At another first byte, at a case that is cut short and at one that its buffers
-// do not hold (80 times or values are the most) it prints `cut` and stops, and so it does where it cannot read or write on,
-// which standard error then says. Mark has a program of its own, marks.
+// The program stops at the end of the input. At a case that is cut short and at one that its buffers do not hold it prints
+// `cut` and stops, and so it does where it cannot read or write on, which standard error then says. Level and Count on parts
+// that no run made have a program of their own, parts, and so has Mark, marks.
 mod circuits;
 mod nets;
-mod parts;
 mod print;
 
 use circuits::circuit_case;
-use parts::parts_case;
+use nets::look_of;
 use testbench::show_cut;
 
+// No input has as many cases as there are turns: each takes 6 bytes or more.
 fn main() {
     let mut turns: u64 = 0;
     while turns < 18446744073709551615 {
@@ -42,22 +38,25 @@ fn main() {
 
 // One case. False where the program stops.
 fn next_case() -> bool {
-    let mut first = [0u8; 1];
-    let received = streams::read_input(&mut first);
+    let mut look = [0u8; 6];
+    let received = streams::read_input(&mut look);
     if received.failed {
-        show_cut();
+        return cut();
+    }
+    let got = received.count;
+    if got == 0 {
         return false;
     }
-    if received.count == 0 {
-        return false;
+    if got < 6 {
+        return cut();
     }
-    let shown = match first[0] {
-        b'c' => circuit_case(),
-        b'l' => parts_case(),
-        _ => false,
-    };
-    if !shown {
-        show_cut();
+    if !circuit_case(look_of(look)) {
+        return cut();
     }
-    shown
+    true
+}
+
+fn cut() -> bool {
+    show_cut();
+    false
 }

@@ -10,28 +10,23 @@ use method::Time;
 use testbench::Head;
 use testbench::Span;
 use testbench::directory_length;
-use testbench::read_all;
 use testbench::show_number;
 use testbench::show_refused;
 use testbench::show_semicolon;
 use testbench::span_of;
-use testbench::tick_of;
+use testbench::tick_at_byte;
 use testbench::with_number;
 
-// The net that is looked at after a run and the time at which its levels are asked for, and whether the input had them.
+// The net that is looked at after a run, and the time at which its levels are asked for.
 pub(crate) struct Look {
-    pub(crate) whole: bool,
     pub(crate) net: Net,
     pub(crate) time: Time,
 }
 
-pub(crate) fn read_look() -> Look {
-    let mut bytes = [0u8; 4];
-    let whole = read_all(&mut bytes);
+pub(crate) fn look_of(bytes: [u8; 6]) -> Look {
     Look {
-        whole: whole,
         net: Net(numbers::number_at(&bytes, 0)),
-        time: Time(tick_of(numbers::number_at(&bytes, 2))),
+        time: Time(tick_at_byte(&bytes, 2)),
     }
 }
 

@@ -1,10 +1,9 @@
 // Answers in print.
 use circuit::Reading;
-use looks::Counted;
-use looks::Seen;
 use looks::Sight;
 use looks::Until;
 use planner::Planning;
+use testbench::show_no_end;
 use testbench::show_number;
 use testbench::show_refused;
 
@@ -38,16 +37,6 @@ pub(crate) fn show_planning(answer: Planning) -> bool {
     }
 }
 
-pub(crate) fn show_seen(answer: Seen) {
-    match answer {
-        Seen::Level(seen) => {
-            streams::write_decimal(bit(seen.level));
-            show_frame(seen);
-        }
-        Seen::Refused(number) => show_refused(number),
-    }
-}
-
 // When the frame began, and when the next begins.
 pub(crate) fn show_frame(seen: Sight) {
     let began = seen.began;
@@ -59,19 +48,6 @@ pub(crate) fn show_frame(seen: Sight) {
     }
 }
 
-fn show_no_end() {
-    streams::write_output(b" no end");
-}
-
 pub(crate) fn bit(level: bool) -> u64 {
     if level { 1 } else { 0 }
-}
-
-pub(crate) fn show_counted(answer: Counted) {
-    match answer {
-        Counted::Changes(changes) => {
-            streams::write_decimal(changes as u64);
-        }
-        Counted::Refused(number) => show_refused(number),
-    }
 }

@@ -40,8 +40,8 @@ pub(crate) fn circuit_case(expected: u8) -> bool {
     if !case.whole {
         return false;
     }
-    let mut records = [0u8; 96];
-    with_records(case, &mut records[0..8 * limited(wide(expected), 12)])
+    let mut records = [0u8; 144];
+    with_records(case, &mut records[0..12 * limited(wide(expected), 12)])
 }
 
 // Fills the records from the input, and prints the line.
@@ -63,7 +63,7 @@ fn with_records(case: Case, records: &mut [u8]) -> bool {
         before,
         after,
         list_of(records),
-        records.len() / 8,
+        records.len() / 12,
     )
 }
 

@@ -3,7 +3,7 @@
 //
 // The first byte of a case says how many expectations it has, 12 at most. Then come a circuit with the caller's limit, its
 // change times and its words, as the top of crates/testbench/src/lib.rt describes it, and the expectations, each as net (2),
-// lane (1), from (2), to (2) and level (1). The line has what Mark answers, `all met`, `unmet` with the position and the
+// lane (1), from (4), to (4) and level (1). The line has what Mark answers, `all met`, `unmet` with the position and the
 // frame, or `refused` with the number, and behind it a sum of each of the five areas as Mark leaves them. How areas are
 // filled before the call and how they are summed stands in the same place.
 //

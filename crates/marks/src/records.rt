@@ -6,28 +6,28 @@ use method::Net;
 use method::Time;
 use testbench::show_number;
 use testbench::show_refused;
-use testbench::tick_of;
+use testbench::tick_at_byte;
 
 // The records in the bytes; of those behind the end every number is 0.
 pub(crate) fn list_of(bytes: &[u8]) -> [Expectation; 12] {
     let mut list = [expectation_at(bytes, 0); 12];
     let mut k = 1;
     while k < 12 {
-        list[k] = expectation_at(bytes, 8 * k);
+        list[k] = expectation_at(bytes, 12 * k);
         k += 1;
     }
     list
 }
 
 fn expectation_at(bytes: &[u8], at: usize) -> Expectation
-    requires { ⌜ at ≤ 80000 ⌝ }
+    requires { ⌜ at ≤ 70000 ⌝ }
 {
     Expectation {
         net: Net(numbers::number_at(bytes, at)),
         lane: low_byte(numbers::number_at(bytes, at + 2)),
-        from: Time(tick_of(numbers::number_at(bytes, at + 3))),
-        to: Time(tick_of(numbers::number_at(bytes, at + 5))),
-        level: low_byte(numbers::number_at(bytes, at + 7)),
+        from: Time(tick_at_byte(bytes, at + 3)),
+        to: Time(tick_at_byte(bytes, at + 7)),
+        level: low_byte(numbers::number_at(bytes, at + 11)),
     }
 }
 

@@ -66,7 +66,7 @@ fn fill_ticks(times: &mut [Tick], rubbish: u16) {
     let mut entry = rubbish;
     let mut k = 0;
     while k < times.len() {
-        times[k] = tick_of(entry);
+        times[k] = tick_of(entry, entry);
         entry = std::num::wrapping_add_u16(entry, 257);
         k += 1;
     }
@@ -92,9 +92,9 @@ fn wide_tick(t: Tick) -> u64 {
     t as u64
 }
 
-// A time from two bytes of the input.
-pub fn tick_of(number: u16) -> Tick {
-    number as Tick
+// A time from its two halves.
+pub(crate) fn tick_of(low: u16, high: u16) -> Tick {
+    low as Tick + 65536 * (high as Tick)
 }
 
 // The arrays hold the areas in front; how long the areas are stands in the head.
@@ -140,7 +140,7 @@ fn show_ticks_sum(times: &[Tick], count: usize) {
     let mut sum: u64 = 0;
     let mut k = 0;
     while k < end {
-        sum = with_number(sum, wide_tick(times[k]));
+        sum = with_tick(sum, wide_tick(times[k]));
         k += 1;
     }
     show_number(sum);
@@ -155,6 +155,10 @@ fn show_words_sum(words: &[u64], count: usize) {
         k += 1;
     }
     show_number(sum);
+}
+
+fn with_tick(sum: u64, tick: u64) -> u64 {
+    with_number(with_number(sum, tick), tick / 65536)
 }
 
 fn with_word(sum: u64, word: u64) -> u64 {

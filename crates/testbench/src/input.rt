@@ -18,8 +18,8 @@ pub struct Ticks {
 
 // Reads as many times, 400 at most; those behind them are 0.
 pub fn read_ticks(count: usize) -> Ticks {
-    let mut bytes = [0u8; 800];
-    ticks_in(&mut bytes[0..2 * limited(count, 400)])
+    let mut bytes = [0u8; 1600];
+    ticks_in(&mut bytes[0..4 * limited(count, 400)])
 }
 
 // Fills the bytes from the input, and takes the times from them.
@@ -32,17 +32,27 @@ fn ticks_in(bytes: &mut [u8]) -> Ticks {
     }
 }
 
-// The two-byte numbers from a place on, as times; those behind the end are 0.
+// The times from a place on; those behind the end are 0.
 pub fn ticks_of(bytes: &[u8], at: usize) -> [Tick; 400]
     requires { ⌜ at ≤ 65535 ⌝ }
 {
     let mut row: [Tick; 400] = [0; 400];
     let mut k = 0;
     while k < 400 {
-        row[k] = tick_of(numbers::number_at(bytes, at + 2 * k));
+        row[k] = tick_at_byte(bytes, at + 4 * k);
         k += 1;
     }
     row
+}
+
+// The time whose four bytes start at a place; past the end of the bytes they are 0.
+pub fn tick_at_byte(bytes: &[u8], at: usize) -> Tick
+    requires { ⌜ at ≤ 80000 ⌝ }
+{
+    tick_of(
+        numbers::number_at(bytes, at),
+        numbers::number_at(bytes, at + 2),
+    )
 }
 
 // The words of a list, and whether the input had them all.

@@ -15,6 +15,11 @@ pub fn show_semicolon() {
     streams::write_output(b"; ");
 }
 
+// For a frame that no other follows.
+pub fn show_no_end() {
+    streams::write_output(b" no end");
+}
+
 // False where the line cannot be written to its end.
 pub fn end_line() -> bool {
     streams::write_output(b"\n")

@@ -27,8 +27,8 @@ shared-slice-read-wide-tick c = search needs
 wide-tick-requires : tie.Need-wide-tick-requires Inv-loop μ-loop
 wide-tick-requires c κs = search needs
 
-with-number-requires : tie.Need-with-number-requires Inv-loop μ-loop
-with-number-requires c κs = search needs
+with-tick-requires : tie.Need-with-tick-requires Inv-loop μ-loop
+with-tick-requires c κs = search needs
 
 add-k : tie.Need-add-k Inv-loop μ-loop
 add-k c = search needs
@@ -56,7 +56,7 @@ show-ticks-sum-spec =
     mul-wide-tick
     shared-slice-read-wide-tick
     wide-tick-requires
-    with-number-requires
+    with-tick-requires
     add-k
     loop-less
     loop-again

@@ -14,17 +14,14 @@ abbrev μ-loop : tie.MeasureT-loop
 loop-holds : tie.Need-loop-holds Inv-loop μ-loop
 loop-holds c = search needs
 
-mul-number-at : tie.Need-mul-number-at Inv-loop μ-loop
-mul-number-at c = search needs
+mul-tick-at-byte : tie.Need-mul-tick-at-byte Inv-loop μ-loop
+mul-tick-at-byte c = search needs
 
-add-number-at : tie.Need-add-number-at Inv-loop μ-loop
-add-number-at c = search needs
+add-tick-at-byte : tie.Need-add-tick-at-byte Inv-loop μ-loop
+add-tick-at-byte c = search needs
 
-number-at-requires : tie.Need-number-at-requires Inv-loop μ-loop
-number-at-requires c κs = search needs
-
-tick-of-requires : tie.Need-tick-of-requires Inv-loop μ-loop
-tick-of-requires c κs = search needs
+tick-at-byte-requires : tie.Need-tick-at-byte-requires Inv-loop μ-loop
+tick-at-byte-requires c κs = search needs
 
 mul-row : tie.Need-mul-row Inv-loop μ-loop
 mul-row c = search needs
@@ -51,10 +48,9 @@ ticks-of-spec =
     Inv-loop
     μ-loop
     loop-holds
-    mul-number-at
-    add-number-at
-    number-at-requires
-    tick-of-requires
+    mul-tick-at-byte
+    add-tick-at-byte
+    tick-at-byte-requires
     mul-row
     array-write-row
     add-k
