@@ -18,6 +18,8 @@ import sys
 import tempfile
 
 CIRCUITS, BURSTS = 320, 140  # how many whose inputs change once, at 1, and how many whose inputs change in bursts
+LONG, LONG_BURSTS = 90, 60  # the same with delays up to 60,000; those above have delays up to 63
+TOGETHER = 20  # circuits in one simulation: a simulation takes its time for each time at which something changes, times all signals
 BUF, NOT, AND, NAND, OR, NOR, XOR, XNOR = range(8)
 COPY = [BUF, NOT]
 ANY = [AND, NAND, OR, NOR, XOR, XNOR]
@@ -25,6 +27,10 @@ ANY = [AND, NAND, OR, NOR, XOR, XNOR]
 
 def two(n):
     return n.to_bytes(2, "little")
+
+
+def four(n):
+    return n.to_bytes(4, "little")
 
 
 class Circuit:
@@ -41,12 +47,12 @@ class Circuit:
         return self.nets() - 1
 
     def file(self):
-        records = [bytes([kind, d, di]) + b"".join(map(two, fanins)) for kind, d, di, fanins in self.gates]
+        records = [bytes([kind]) + two(d) + two(di) + b"".join(map(two, fanins)) for kind, d, di, fanins in self.gates]
         at, pairs = 4 + 4 * len(records), b""
         for record in records:
             pairs += two(at) + two(len(record))
             at += len(record)
-        return two(self.inputs) + two(len(records)) + pairs + b"".join(records)
+        return two(256 + self.inputs) + two(len(records)) + pairs + b"".join(records)
 
     def frames(self, moments):
         """How many potential times each net has, with these change times for each input."""
@@ -164,16 +170,62 @@ SHAPES = [(loose, range(1, 10), range(10)), (loose, [1, 1, 2, 3], range(4)), (lo
           (kinds,), (parities,), (paths,), (filters,), (ties,), (adder,)]
 
 
+def shaped(rng, turn):
+    """The shapes in turn."""
+    shape, *more = SHAPES[turn % len(SHAPES)]
+    return shape(rng, *more)
+
+
+def deep(rng):
+    """A chain of long delays, with times in the millions, and gates that see its ends at once."""
+    c = Circuit(2)
+    for _ in range(rng.choice([30, 60, 120])):
+        c.add(rng.choice(COPY), rng.choice([60000, 60000, 59999, 30000]), rng.choice([0, 1, 200, 59999, 60000]), c.nets() - 1)
+    c.add(rng.choice(ANY), 60000, rng.choice([0, 60000]), 0, 1, c.nets() - 1)
+    return c
+
+
+def stretched(rng, c):
+    """The same circuit with all delays times a number; in places they are one more or less, so that what met just does not."""
+    times, off = rng.choice([2, 17, 256, 300, 952]), rng.choice([[0], [0, 0, 0, 1, -1]])
+    longer = Circuit(c.inputs)
+    for kind, d, di, fanins in c.gates:
+        longer.add(kind, max(1, times * d + rng.choice(off)), max(0, times * di + rng.choice(off)), *fanins)
+    return longer
+
+
+FAR = [1, 63, 64, 254, 255, 256, 257, 5536, 29999, 30000, 59999, 60000]
+
+
+def lengthy(rng, turn):
+    """The shapes in turn with their delays stretched, and between them any delays up to 60,000."""
+    if turn % 5 == 1:
+        return loose(rng, FAR, [0, *FAR])
+    if turn % 5 == 3:
+        return loose(rng, range(1, 60001), range(60001))
+    return deep(rng) if turn % 15 == 5 else stretched(rng, shaped(rng, turn))
+
+
 def circuits(rng):
     """The shapes in turn. Every twentieth circuit is a crowded one, with a net of just 64 frames and up to 2,048 in all."""
     made = []
     while len(made) < CIRCUITS:
         turn = len(made)
         crowd = turn % 20 == 9
-        shape, *more = (crowded, 26 if turn % 160 == 9 else 4) if crowd else SHAPES[turn % len(SHAPES)]
-        c = shape(rng, *more)
+        c = crowded(rng, 26 if turn % 160 == 9 else 4) if crowd else shaped(rng, turn)
         frames = c.frames(once(c))
         if max(frames) == 64 and sum(frames) <= 2048 if crowd else max(frames) < 64 and sum(frames) <= 200:
+            made.append(c)
+    return made
+
+
+def long_circuits(rng):
+    """With delays up to 60,000, on a net up to 64 frames."""
+    made = []
+    while len(made) < LONG:
+        c = lengthy(rng, len(made))
+        frames = c.frames(once(c))
+        if max(frames) <= 64 and sum(frames) <= 300:
             made.append(c)
     return made
 
@@ -200,12 +252,11 @@ def burst(rng, most, last):
     return sorted({*times[1:], last} if times and rng.random() < 0.2 else times)
 
 
-def bursting(rng):
-    """The shapes in turn with inputs that change in bursts, on a net up to 64 frames; before words and after words."""
+def bursting(rng, count, circuit):
+    """So many circuits whose inputs change in bursts, on a net up to 64 frames; before words and after words."""
     made = []
-    while len(made) < BURSTS:
-        shape, *more = SHAPES[len(made) % len(SHAPES)]
-        c, (most, last) = shape(rng, *more), rng.choice([(2, 6), (3, 20), (5, 60), (8, 10), (8, 255)])
+    while len(made) < count:
+        c, (most, last) = circuit(rng, len(made)), rng.choice([(2, 6), (3, 20), (5, 60), (8, 10), (8, 255)])
         moments = [burst(rng, most, last) for _ in range(c.inputs)]
         frames = c.frames(moments)
         if max(frames) <= 64 and 3 * c.nets() <= sum(frames) <= 300:
@@ -292,7 +343,7 @@ def from_zero(pairs, zero):
 
 
 def vector(file, counts, times, words):
-    lists = bytes(counts) + b"".join(map(two, times)) + b"".join(word.to_bytes(8, "little") for word in words)
+    lists = bytes(counts) + b"".join(map(four, times)) + b"".join(word.to_bytes(8, "little") for word in words)
     return two(len(file)) + two(len(times)) + file + lists
 
 
@@ -309,18 +360,24 @@ def turned_down():
         ladder.add(AND, 1, 0, net, 0)  # a frame more a gate, 65 in the end
     good, many = vector(plain.file(), [1], [1], [1, 2]), vector(ladder.file(), [1], [1], [1, 2])
     told = [(b"", 0), (good[:1], 0), (good[:3], 0), (good[:7], 0), (good + bytes(4096 - len(good)), 11),
-            (vector(b"", [], [], []), 1), (vector(own.file(), [1], [1], [1]), 9), (good[:-1], 11), (good + bytes(1), 11), (many[:-8], 11), (many, 13)]
+            (vector(b"", [], [], []), 1), (vector(own.file(), [1], [1], [1]), 9), (good[:-1], 11), (good + bytes(1), 11),
+            (many[:-8], 11), (many, 13)]
     # a word too few or too many for the changes, and change times that do not suit: both are asked before the frames are counted
     told += [(vector(c.file(), [1], times, [1, 2]), 11) for c in (plain, ladder) for times in ([], [0, 0])]
     for counts, times in (([1], [0]), ([1], [256]), ([2], [3, 3]), ([2], [3, 2]), ([9], range(1, 10)), ([1], [1, 2]), ([1], []),
-                          ([0], [1]), ([255], range(1, 256)), ([8], [1] * 256), ([8], [1] * 257), ([1], [1] * 401)):
+                          ([0], [1]), ([255], range(1, 256)), ([8], [1] * 256), ([8], [1] * 257), ([1], [1] * 401),
+                          ([1], [65537]), ([2], [1, 65538]), ([1], [2**32 - 1])):
         told += [(vector(c.file(), counts, times, [1] * (1 + len(times))), 20) for c in (plain, ladder)]
+    told += [(vector(two(1) + plain.file()[2:], [1], [1], [1, 2]), 2)]  # of the former edition
+    half = len(good) - 16 - 2  # behind the lower half of the time
+    told += [(good[:half] + good[half + 2:], 11)]  # a time of two bytes, as it once was
     return told
 
 
 rng = random.Random(int(sys.argv[1]) if len(sys.argv) > 1 else 1)
-vectors = [(c, once(c), *words(rng, c.inputs)) for c in circuits(rng)] + bursting(rng)
-results = simulate(vectors)
+vectors = [(c, once(c), *words(rng, c.inputs)) for c in circuits(rng)] + bursting(rng, BURSTS, shaped)
+vectors += [(c, once(c), *words(rng, c.inputs)) for c in long_circuits(rng)] + bursting(rng, LONG_BURSTS, lengthy)
+results = [nets for k in range(0, len(vectors), TOGETHER) for nets in simulate(vectors[k:k + TOGETHER])]
 with open("crates/outside/stdin", "wb") as f:
     made = [vector(c.file(), map(len, moments), [*itertools.chain(*moments)], b + a) for c, moments, b, a in vectors]
     f.writelines(two(len(data)) + data for data in [data for data, _ in turned_down()] + made)
@@ -330,5 +387,7 @@ with open("crates/outside/stdout", "w") as f:
     for nets in results:
         f.writelines([line(net, changes) for net, changes in enumerate(nets)] + ["\n"])
     f.write("cut\n")
-changes = [len(changes) - 1 for nets in results for changes in nets]
-print(len(vectors), "circuits,", len(changes), "nets,", sum(changes), "changes of a word")
+for name, part in (("all", results), ("of long delays", results[CIRCUITS + BURSTS:])):
+    changes = [len(changes) - 1 for nets in part for changes in nets]
+    late = max(time for nets in part for net in nets for time, _ in net)
+    print(name, len(part), "circuits,", len(changes), "nets,", sum(changes), "changes of a word, the last at", late)

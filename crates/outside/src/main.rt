@@ -3,7 +3,7 @@
 //
 // Standard input is a stream of any number of vectors: two bytes with a length N, and N bytes. These are: the circuit's
 // length (2), how many changes the inputs have together (2), the circuit, how many changes each input has (1 each), the times
-// of the changes (2 each), a before word for each input and an after word for each change (8 each); inputs in order, and each
+// of the changes (4 each), a before word for each input and an after word for each change (8 each); inputs in order, and each
 // input's changes in the order of their times. Numbers of more than one byte are little-endian. Standard output has for each
 // vector a line a net, and an empty line after the last:
 //
@@ -115,7 +115,7 @@ fn show_circuit(file: &[u8], lists: &[u8], total: usize) -> bool
 {
     match circuit::read(file) {
         Reading::Accepted { inputs, gates } => {
-            if lists.len() != 9 * inputs as usize + 10 * total {
+            if lists.len() != 9 * inputs as usize + 12 * total {
                 return refuse(11);
             }
             with_lists(file, lists, inputs as usize, total, nets_of(inputs, gates))
@@ -144,7 +144,7 @@ fn with_lists(file: &[u8], lists: &[u8], inputs: usize, total: usize, nets: u16)
     if 256 < total {
         return refuse(20);
     }
-    let words = inputs + 2 * total;
+    let words = inputs + 4 * total;
     show_run(
         file,
         &lists[0..limited(inputs, lists.len())],
