@@ -1,6 +1,9 @@
 // The gates, one after the other: each is planned from the nets before it.
 ghost use mathlib.Core.Path.{_≡_};
-ghost use Prim.Native.Nat.{_+_, _<_};
+ghost use Prim.Native.Nat.{_+_, _*_, _<_};
+ghost use lib.ListN.{length};
+ghost use Rattle.method.specs.Kinds.{mostFanins};
+ghost use Rattle.method.specs.Limits.{mostNetFrames};
 ghost use Rattle.circuit.specs.File.{inputsOf, gatesOf};
 ghost use Rattle.circuit.specs.Task.{taskOf};
 ghost use Rattle.method.specs.Areas.{areas};
@@ -20,7 +23,8 @@ const MOST_TOTAL_FRAMES: u16 = 2048;
 // Room for the times of any gate, from those of its fan-ins.
 const GATHERED_LENGTH: usize = MOST_FANINS * MOST_NET_FRAMES + 2;
 
-// Plans the gates, until one shows that there are too many frames.
+// Plans the gates, until one shows that there are too many frames. The row in which a gate's times are gathered is made once for
+// all gates, since to clear it for each would cost more than to fill it.
 pub(crate) fn add_gates(
     file: &[u8],
     counts: &[u8],
@@ -37,6 +41,7 @@ pub(crate) fn add_gates(
     requires { ⌜ Going (taskOf (now file) (now counts) (now changes)) 0 (areas (now directory) (now times) (now inertial) (now fanins)) start ⌝ }
     ensures { λ r. ⌜ Reached (taskOf (now (file .entry)) (now (counts .entry)) (now (changes .entry))) gates (areas (now (directory .exit)) (now (times .exit)) (now (inertial .exit)) (now (fanins .exit))) r ⌝ }
 {
+    let mut gathered: [Tick; GATHERED_LENGTH] = [0; GATHERED_LENGTH];
     let mut totals = start;
     let mut j: u16 = 0;
     while j < gates {
@@ -51,6 +56,7 @@ pub(crate) fn add_gates(
             times,
             inertial,
             fanins,
+            &mut gathered,
             totals,
         ) else {
             return Progress::TooMany;
@@ -72,16 +78,17 @@ fn add_gate(
     times: &mut [Tick],
     inertial: &mut [u16],
     fanins: &mut [u16],
+    gathered: &mut [Tick],
     totals: Totals,
 ) -> Progress
     requires { ⌜ Given (taskOf (now file) (now counts) (now changes)) (areas (now directory) (now times) (now inertial) (now fanins)) × (j < gatesOf (now file)) × (net .0 ≡ inputsOf (now file) + j) ⌝ }
     requires { ⌜ Going (taskOf (now file) (now counts) (now changes)) j (areas (now directory) (now times) (now inertial) (now fanins)) totals ⌝ }
+    requires { ⌜ 1 + mostFanins * mostNetFrames < length (now gathered) ⌝ }
     ensures { λ r. ⌜ Reached (taskOf (now (file .entry)) (now (counts .entry)) (now (changes .entry))) (j + 1) (areas (now (directory .exit)) (now (times .exit)) (now (inertial .exit)) (now (fanins .exit))) r ⌝ }
 {
     let gate = circuit::gate_at(file, j);
     let first = totals.frames;
-    let mut gathered: [Tick; GATHERED_LENGTH] = [0; GATHERED_LENGTH];
-    let count = gate_times(file, gate, directory, times, &mut gathered);
+    let count = gate_times(file, gate, directory, times, gathered);
     if MOST_NET_FRAMES < count {
         return Progress::TooMany;
     }
