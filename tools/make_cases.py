@@ -1231,7 +1231,8 @@ far(32, [Record(AND, 60000, 60000, [31 + j] * 8) for j in range(128)], [[]] * 31
 # nets whose times are equal, or in another order, in their lower halves
 late = [Record(BUF, 60000, 0, [0]), Record(BUF, 5536, 0, [1])]  # 65,536 later
 for kind in (AND, OR, XOR, NOR):
-    far(1, late + [Record(BUF, 1, 0, [2]), Record(kind, 3, 0, [0, 2, 3])], looks=3)
+    for fanins in ([0, 2, 3], [3, 2, 0]):
+        far(1, late + [Record(BUF, 1, 0, [2]), Record(kind, 3, 0, fanins)], looks=2)
     far(1, late + [Record(kind, 3, 0, [0, 2]), Record(NOT, 60000, 65536 - 60000, [3])], [[1, 2]], looks=3)
 far(1, late + [Record(BUF, 60000, 0, [2]), Record(BUF, 5536, 0, [3]), Record(XOR, 1, 0, [0, 2, 4]), Record(XOR, 2, 1, [5, 5, 0])],
     looks=3)
