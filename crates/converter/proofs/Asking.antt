@@ -1,38 +1,36 @@
 -- The ladder's cases in their order, and what an accepted file gives the functions that write it anew.
 -- Assumes nothing.
-use Prim.Native.Nat.{ℕ, zero, suc, _+_, _<_, _≤_}
-use mathlib.Core.Path.{_≡_, refl, sym, ap, _∙_}
+use Prim.Native.Nat.{ℕ, _<_, _≤_}
+use mathlib.Core.Path.{_≡_, sym, ap, _∙_}
 use mathlib.Core.Bool.{Bool, true, false, not, _&&_}
-use mathlib.Core.List.{List, [], _∷_, _++_}
+use mathlib.Core.List.{List, [], _∷_}
 use native.Mathlib.Omega.{arith}
 use lib.ListN.{length}
-use lib.Dec.{leb, eqb}
-use borrow.Author.Tests.{eq-eqb, ne-eqb, leb-true, le-leb, not-true, not-false}
-use Rattle.lists.specs.Ladder.{Question, _orElse_, firstNo, accepted, refused}
+use lib.Dec.{leb}
+use borrow.Author.Tests.{eq-eqb, ne-eqb, leb-true, not-true, not-false}
+use Rattle.lists.specs.Ladder.{Question, _orElse_, firstNo, accepted}
 use Rattle.lists.specs.Tables.{tabulate}
-use Rattle.lists.specs.Areas.{padded}
 use Rattle.lists.specs.Outcome.{outcome}
-use Rattle.lists.proofs.Choices.{and-left, and-right, and-both}
+use Rattle.lists.proofs.Choices.{and-left, and-right}
 use Rattle.lists.proofs.Ladders.{ask-yes, ask-no, all-asked, firstNo-append, first, first-here, accepted-none, refused-some}
-use Rattle.lists.proofs.Tabled.{from-length, every-from}
-use Rattle.method.specs.Kinds.{mostFanins}
-use Rattle.method.specs.Circuit.{Gate, Circuit}
+use Rattle.lists.proofs.Tabled.{every-from}
+use Rattle.method.specs.Circuit.{Gate}
 use Rattle.method.proofs.Taking.{takes-range}
 use Rattle.editions.specs.declared.Edition.{Edition}
 use Rattle.editions.specs.declared.Reading.{Reading}
 use Rattle.editions.specs.declared.Reading.the-variants as R
-use Rattle.editions.specs.File.{inputsOf, gatesOf, delayOf, inertialOf, entriesOf, gateOf, circuitOf}
-use Rattle.editions.specs.Limits.{mostInputs, delayRange, Writable, GatesWithin, Within}
+use Rattle.editions.specs.File.{inputsOf, gatesOf, delayOf, inertialOf, gateOf, circuitOf}
+use Rattle.editions.specs.Limits.{Writable}
 use Rattle.editions.specs.Questions as reader
-use Rattle.editions.specs.Encode.{encode}
 use Rattle.editions.proofs.Gated.{questions-numbered}
 use Rattle.editions.proofs.Accepted.{Passed, passed, counted}
+use Rattle.editions.proofs.Parts.{gates-listed, reading-accepted, inputs-are, gates-are}
 use Rattle.editions.proofs.Faithful.{fanins-length, gate-within, accepted-within}
-use Rattle.filing.specs.Filed.{areaLength, areaQuestion, filedBy}
+use Rattle.filing.specs.Filed.{areaLength, areaQuestion}
 use Rattle.filing.proofs.Filed.{file-most, filed-no, filed-yes}
 use Rattle.converter.specs.declared.Conversion.the-variants as C
 use Rattle.converter.specs.Convert.{delaysUpTo, onPaper}
-use Rattle.converter.specs.Steps.{questionsBy, convertedBy, Fit, Fits, Ready, WroteFile}
+use Rattle.converter.specs.Steps.{questionsBy, convertedBy, Fit, Ready, WroteFile}
 
 -- ---- delays
 
@@ -45,10 +43,6 @@ low-at ed file most n e j l =
     )
 
 module _ (from to : Edition) (file area : List ℕ) where
-  pub gates-listed : circuitOf from file .gates ≡ tabulate (gatesOf file) (gateOf from file)
-  unfolding circuitOf
-  gates-listed = refl
-
   abbrev pub rest : List Question
   rest = areaQuestion area ∷ (delaysUpTo (to .most) (circuitOf from file .gates) orElse 23) ∷ []
 
@@ -66,20 +60,11 @@ module _ (from to : Edition) (file area : List ℕ) where
         filed-no (questionsBy from to file area) _ area (joined ∙ rw (q .0) (first-here number _ some)) some
 
     module _ {inputs gates : ℕ} (e : r ≡ R.Accepted inputs gates) where
-      pub read-yes : reader.readOf from file ≡ accepted (record { inputs = inputs; gates = gates })
-      unfolding reader.onPaper
-      read-yes = sym f ∙ ap reader.onPaper e
+      read-yes : reader.readOf from file ≡ accepted (record { inputs = inputs; gates = gates })
+      read-yes = reading-accepted from file f e
 
       all : Passed from file (record { inputs = inputs; gates = gates })
       all = passed from file _ read-yes
-
-      inputs-are : inputs ≡ inputsOf from file
-      unfolding reader.inputsAndGatesOf
-      inputs-are = sym (ap (λ (s : reader.InputsAndGates). s .inputs) (all .answers))
-
-      gates-are : gates ≡ gatesOf file
-      unfolding reader.inputsAndGatesOf
-      gates-are = sym (ap (λ (s : reader.InputsAndGates). s .gates) (all .answers))
 
       read-none : firstNo (reader.questions from file) ≡ 0
       unfolding reader.readOf
@@ -94,7 +79,7 @@ module _ (from to : Edition) (file area : List ℕ) where
 
       module _ (y : length area ≡ areaLength) {b : Bool} (d : b ≡ delaysUpTo (to .most) (tabulate gates (gateOf from file))) where
         low : delaysUpTo (to .most) (circuitOf from file .gates) ≡ b
-        low = rw (gates-listed, ← gates-are) (sym d)
+        low = rw (gates-listed from file, ← gates-are from file read-yes) (sym d)
 
         past-10 : firstNo (questionsBy from to file area) ≡ firstNo ((delaysUpTo (to .most) (circuitOf from file .gates) orElse 23) ∷ [])
         past-10 = joined-rest ∙ ask-yes _ _ _ (eq-eqb _ _ y)
@@ -107,7 +92,7 @@ module _ (from to : Edition) (file area : List ℕ) where
           each-fit : Writable to → (j : ℕ) → j < gatesOf file → Fit from to file j
           unfolding gateOf
           each-fit fit j l =
-              let both = low-at from file (to .most) (gatesOf file) (rw gates-listed at (low ∙ not-false b n)) j l in
+              let both = low-at from file (to .most) (gatesOf file) (rw (gates-listed from file) at (low ∙ not-false b n)) j l in
               let own = gate-within from file j (all .gate j l) in
               record {
                 entries = omega (arith, takes-range _ _ (own .entries) .1, fanins-length from file j);
@@ -125,8 +110,8 @@ module _ (from to : Edition) (file area : List ℕ) where
                   counts = omega (arith, counted from file h .inputs-most, fit .counts);
                   room = omega (arith, file-most to from (circuitOf from file) w, y);
                 },
-                inputs-are,
-                gates-are,
+                inputs-are from file read-yes,
+                gates-are from file read-yes,
               )
 
           pub written-all : {end : ℕ} {area′ : List ℕ} → WroteFile from to file area area′ end → outcome (onPaper (C.Written end)) area′ ≡ convertedBy from to file area

@@ -2,25 +2,23 @@
 -- the two ways of one.
 -- Assumes nothing.
 use Prim.Native.Nat.{ℕ, zero, suc, _≤_}
-use mathlib.Core.Path.{_≡_, refl, sym, ap, _∙_}
+use mathlib.Core.Path.{_≡_, refl, sym, _∙_}
 use mathlib.Core.Bool.{Bool, true, false, _&&_}
-use mathlib.Core.List.{List, [], _∷_, map}
+use mathlib.Core.List.{List, [], _∷_}
 use native.Mathlib.Omega.{arith}
 use lib.Dec.{leb}
 use borrow.Author.Tests.{leb-true, le-leb}
-use Rattle.lists.specs.Ladder.{Question, _orElse_, firstNo, unless, accepted}
-use Rattle.lists.specs.Tables.{every}
-use Rattle.lists.specs.Outcome.{Outcome, outcome, leftUnless}
+use Rattle.lists.specs.Ladder.{_orElse_, firstNo}
+use Rattle.lists.specs.Outcome.{Outcome}
 use Rattle.lists.proofs.Choices.{and-left, and-right, and-both}
-use Rattle.lists.proofs.Ladders.{ask-yes, all-asked, firstNo-append, firstNo-behind, first, unless-none, isNumber, numbered, each-append}
+use Rattle.lists.proofs.Ladders.{ask-yes, firstNo-append, firstNo-behind, first, unless-none, isNumber, numbered, each-append}
 use Rattle.numbers.specs.Numbers.{numberAt}
 use Rattle.method.specs.Circuit.{Gate, Circuit}
 use Rattle.editions.specs.declared.Edition.{Edition}
 use Rattle.editions.specs.Edition.{former, present}
 use Rattle.editions.specs.File.{circuitOf}
-use Rattle.editions.specs.Limits.{Writable, GateWithin, GatesWithin, Within}
+use Rattle.editions.specs.Limits.{Writable, GatesWithin, Within}
 use Rattle.editions.specs.Questions as reader
-use Rattle.editions.specs.Encode.{encode}
 use Rattle.editions.proofs.Gated.{questions-numbered}
 use Rattle.editions.proofs.Faithful.{accepted-within, former-writable, present-writable}
 use Rattle.filing.specs.Filed.{areaQuestion, filedBy}

@@ -1,29 +1,28 @@
 -- `specs/Conversions`, proved: both ways at once, and then each.
 -- Assumes nothing.
-use Prim.Native.Nat.{ℕ, _+_, _-_, _≤_}
-use mathlib.Core.Path.{_≡_, refl, sym, ap, subst, _∙_}
+use Prim.Native.Nat.{ℕ, _≤_}
+use mathlib.Core.Path.{_≡_, sym, ap, subst, _∙_}
 use mathlib.Core.Bool.{Bool, true, false, cond}
-use mathlib.Core.List.{List, [], _∷_, _++_}
+use mathlib.Core.List.{List, []}
 use native.Mathlib.Omega.{arith}
-use lib.ListN.{length, take, drop, replicate}
+use lib.ListN.{length, take}
 use lib.Dec.{eqb, leb}
-use lib.Seq.{take-at, drop-at}
 use borrow.Author.Tests.{eqb-true, eq-eqb}
-use Rattle.lists.specs.Ladder.{_orElse_, firstNo, accepted}
+use Rattle.lists.specs.Ladder.{firstNo, accepted}
 use Rattle.lists.specs.Areas.{padded}
 use Rattle.lists.specs.Outcome.{Outcome, outcome}
 use Rattle.lists.proofs.Ladders.{asked, ask-yes, all-asked, first-none, unless-none, accepted-none}
-use Rattle.lists.proofs.Padding.{pad-length}
+use Rattle.lists.proofs.Padding.{pad-length, pad-front, pad-behind}
 use Rattle.method.specs.Circuit.{Circuit}
 use Rattle.editions.specs.declared.Edition.{Edition}
 use Rattle.editions.specs.Edition.{former, present}
 use Rattle.editions.specs.File.{circuitOf}
 use Rattle.editions.specs.Limits.{Writable, Within}
-use Rattle.editions.specs.Questions.{InputsAndGates, questions, inputsAndGatesOf, readOf}
+use Rattle.editions.specs.Questions.{questions, inputsAndGatesOf, readOf}
 use Rattle.editions.specs.Encode.{encode}
-use Rattle.editions.specs.Faithful.{Bytes, inputsAndGatesIn, Faithful}
+use Rattle.editions.specs.Faithful.{Bytes, Faithful}
 use Rattle.editions.proofs.Faithful.{faithful, former-writable, present-writable}
-use Rattle.filing.specs.Filed.{areaLength, areaQuestion, filedBy}
+use Rattle.filing.specs.Filed.{areaLength}
 use Rattle.filing.proofs.Filed.{file-most, filed-yes, answered-yes, left-yes}
 use Rattle.numbers.specs.Numbers.{numberAt}
 use Rattle.converter.specs.declared.Conversion.{Conversion}
@@ -33,16 +32,6 @@ use Rattle.converter.specs.Conversions.{Holds, Conversions}
 use Rattle.converter.specs.Steps.{questionsBy, convertedBy}
 use Rattle.converter.proofs.Asking.{rest, joined}
 use Rattle.converter.proofs.Both.{low-within, within-other, newer-is, older-is}
-
--- ---- a file in an area with zeros behind it
-
-pad-front : (n : ℕ) (xs : List ℕ) → take (length xs) (padded n xs) ≡ xs
-unfolding padded
-pad-front n xs = take-at xs (replicate (n - length xs) 0) (length xs) refl
-
-pad-behind : (n : ℕ) (xs : List ℕ) → drop (length xs) (padded n xs) ≡ replicate (n - length xs) 0
-unfolding padded
-pad-behind n xs = drop-at xs (replicate (n - length xs) 0) (length xs) refl
 
 -- ---- both ways at once
 

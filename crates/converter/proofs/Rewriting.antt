@@ -1,6 +1,6 @@
 -- A file written anew, gate by gate: the loops over the gates and over a gate's fan-ins.
 -- Assumes nothing.
-use Prim.Native.Nat.{ℕ, suc, _+_, _-_, _*_, _<_, _≤_}
+use Prim.Native.Nat.{ℕ, _+_, _-_, _*_, _<_, _≤_}
 use mathlib.Core.Path.{_≡_, refl, sym, ap, _∙_}
 use mathlib.Core.Bool.{Bool, true, false}
 use mathlib.Core.List.{List, [], _∷_, _++_, flatMap, append-assoc}
@@ -11,7 +11,7 @@ use lib.Seq.{sets}
 use borrow.Author.Tests.{le-leb, lt-leb}
 use Rattle.lists.specs.Tables.{tabulateFrom, tabulate}
 use Rattle.lists.specs.Areas.{cleared, padded}
-use Rattle.lists.proofs.Tabled.{from-length, from-step, from-end}
+use Rattle.lists.proofs.Tabled.{from-step, from-end}
 use Rattle.method.specs.Kinds.{mostFanins}
 use Rattle.method.specs.Circuit.{Gate, Circuit}
 use Rattle.editions.specs.declared.Edition.{Edition}
@@ -22,6 +22,7 @@ use Rattle.editions.specs.Encode.{twoBytes, encodeHead, encodeGate, encodePairs
 use Rattle.editions.proofs.Bytewise.{two-length}
 use Rattle.editions.proofs.Written.{head-length, gate-length}
 use Rattle.editions.proofs.Encoded.{head-most}
+use Rattle.editions.proofs.Parts.{circuit-inputs, gates-listed, gates-length}
 use Rattle.editions.proofs.Faithful.{fanins-length}
 use Rattle.filing.proofs.Putting.{Storing, store-none, store-more, store-all, put-both}
 use Rattle.filing.proofs.Filed.{file-length, filed}
@@ -204,16 +205,13 @@ module _ (to : Edition) (c : Circuit) (entry : List ℕ) {inputs gates : ℕ} {g
 
 module _ (from to : Edition) (file entry : List ℕ) {inputs gates : ℕ} (i : inputs ≡ inputsOf from file) (g : gates ≡ gatesOf file) (room : length (encode to (circuitOf from file)) ≤ length entry) where
   inputs-same : circuitOf from file .inputs ≡ inputs
-  unfolding circuitOf
-  inputs-same = sym i
+  inputs-same = circuit-inputs from file ∙ sym i
 
   gates-counted : length (circuitOf from file .gates) ≡ gates
-  unfolding circuitOf
-  gates-counted = from-length (gatesOf file) 0 (gateOf from file) ∙ sym g
+  gates-counted = gates-length from file ∙ sym g
 
   gates-same : circuitOf from file .gates ≡ gatesIn from file gates 0
-  unfolding circuitOf
-  gates-same = rw (g, sub-zero)
+  gates-same = gates-listed from file ∙ rw (g, sub-zero)
 
   pub wrote-file : {area₀ area₁ area₂ area₃ : List ℕ} {end : ℕ} → area₀ ≡ cleared entry → area₁ ≡ sets area₀ 0 (twoBytes (inputs + to .added) ++ twoBytes gates)
       → area₂ ≡ sets area₁ 4 (encodePairs to (headLength gates) (gatesIn from file gates 0))

@@ -1,7 +1,7 @@
 -- The file of a circuit within the limits: it is a file of bytes, its parts stand where the reader looks for them, and every
 -- question is answered yes.
 -- Assumes nothing.
-use Prim.Native.Nat.{ℕ, zero, suc, _+_, _-_, _*_, _/_, _<_, _≤_}
+use Prim.Native.Nat.{ℕ, suc, _+_, _-_, _*_, _/_, _<_, _≤_}
 use mathlib.Core.Path.{_≡_, refl}
 use mathlib.Core.List.{List, [], _∷_, _++_, flatMap}
 use mathlib.Core.Bool.{Bool, true, false, cond}
@@ -18,7 +18,7 @@ use Rattle.method.proofs.Taking.{takes-range}
 use Rattle.editions.specs.File.{inputsOf, gatesOf, headLength, lengthOf, recordHead, recordLength}
 use Rattle.editions.specs.Limits.{delaysSuit, GateWithin, GatesWithin, Within, delayRange, Writable}
 use Rattle.editions.specs.Questions.{fills, lengthSuits}
-use Rattle.editions.specs.Encode.{twoBytes, kindNumber, encodeDelay, encodeHead, encodeGate, encodePairs, encode}
+use Rattle.editions.specs.Encode.{twoBytes, encodeDelay, encodeHead, encodeGate, encodePairs, encode}
 use Rattle.editions.specs.Faithful.{Bytes}
 use Rattle.numbers.specs.Numbers.{numberAt}
 use Rattle.editions.proofs.Bytewise.{number-stands, kind-number, kind-most, AllBytes, bytes-append, bytes-at, bytes-two, bytes-fanins}

@@ -3,16 +3,15 @@
 use Prim.Native.Nat.{ℕ, zero, suc, _+_, _<_, _≤_}
 use mathlib.Core.Path.{_≡_, refl, sym, _∙_}
 use mathlib.Core.List.{List, _++_, flatMap}
-use mathlib.Core.Bool.{true, false}
-use mathlib.Core.Logic.{inl, inr}
+use mathlib.Core.Bool.{true}
 use native.Mathlib.Omega.{arith}
 use native.Mathlib.Nat.{add-suc, add-zero}
 use lib.ListN.{length, length-append}
 use lib.Dec.{eqb, leb}
-use borrow.Author.Tests.{eqb-true, le-leb, lt-leb}
+use borrow.Author.Tests.{eqb-true}
 use Rattle.lists.specs.Ladder.{between, accepted, refused}
 use Rattle.lists.specs.Tables.{tabulateFrom, tabulate}
-use Rattle.lists.proofs.Choices.{order, and-left, and-right, between-least-true, between-most-true}
+use Rattle.lists.proofs.Choices.{and-left, and-right, between-least-true, between-most-true, between-out}
 use Rattle.lists.proofs.Tabled.{from-length}
 use Rattle.lists.proofs.Standing.{stands-append, stands-whole}
 use Rattle.method.specs.Kinds.{takes}
@@ -163,13 +162,6 @@ former-faithful = faithful former former-writable
 
 pub present-faithful : Faithful present
 present-faithful = faithful present present-writable
-
-between-out : (a b n : ℕ) → (a ≤ n → n ≤ b → ⊥) → between a b n ≡ false
-between-out a b n h =
-    elim (order a n) [
-      | inl x ↦ elim (order n b) [ inl y ↦ absurd (h x y) | inr y ↦ rw (le-leb a n x, lt-leb n b y) ]
-      | inr x ↦ rw (lt-leb a n x)
-    ]
 
 -- a file of 4 bytes or more whose bytes 0-1 no I of the edition gives
 refused-2 : (ed : Edition) (s : List ℕ) → 4 ≤ length s → (1 + ed .added ≤ numberAt s 0 → numberAt s 0 ≤ mostInputs + ed .added → ⊥) → readOf ed s ≡ refused 2

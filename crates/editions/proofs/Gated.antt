@@ -14,7 +14,7 @@ use Rattle.method.specs.Kinds.{takes}
 use Rattle.method.specs.declared.Kind.{Kind}
 use Rattle.editions.specs.declared.GateRecord.{GateRecord}
 use Rattle.numbers.specs.Numbers.{byteAt, numberAt}
-use Rattle.editions.specs.File.{offsetOf, inputsOf, gatesOf, lengthOf, recordHead, recordLength, kindByte, delayAt, delayOf, inertialOf, entriesOf, faninAt, faninsOf, kindOf, recordOf}
+use Rattle.editions.specs.File.{offsetOf, inputsOf, gatesOf, lengthOf, recordHead, kindByte, delayAt, delayOf, inertialOf, entriesOf, faninAt, faninsOf, kindOf, recordOf}
 use Rattle.editions.specs.Edition.{present, delayBytes}
 use Rattle.editions.specs.Limits.{delaysSuit}
 use Rattle.editions.specs.Questions.{lengthSuits, headQuestions, gateQuestions, questions, inputsAndGatesOf, readOf}

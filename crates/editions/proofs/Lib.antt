@@ -8,3 +8,4 @@ pub mod Accepted
 pub mod Written
 pub mod Encoded
 pub mod Faithful
+pub mod Parts

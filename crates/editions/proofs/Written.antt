@@ -1,10 +1,10 @@
 -- Gates written in a file of an edition: what the file says of gates j, j + 1, .. is what these gates are, their records one
 -- behind the other from a byte on. This holds where their encoding stands in the file, and the other way round in a file of bytes.
 -- Assumes nothing.
-use Prim.Native.Nat.{ℕ, zero, suc, _+_, _-_, _*_, _/_, _<_, _≤_}
+use Prim.Native.Nat.{ℕ, suc, _+_, _-_, _*_, _/_}
 use mathlib.Core.Path.{_≡_, refl, _∙_, ap₂}
 use mathlib.Core.Bool.{Bool, true, false, cond}
-use mathlib.Core.List.{List, [], _∷_, _++_, flatMap, append-assoc}
+use mathlib.Core.List.{List, [], _∷_, _++_, flatMap}
 use native.Mathlib.Omega.{arith}
 use lib.ListN.{length, getD, length-append}
 use Rattle.lists.specs.Tables.{tabulateFrom}
@@ -13,10 +13,10 @@ use Rattle.numbers.specs.Numbers.{byteAt, numberAt}
 use Rattle.method.specs.Circuit.{Gate}
 use Rattle.editions.specs.declared.Edition.{Edition}
 use Rattle.editions.specs.Edition.{delayBytes}
-use Rattle.editions.specs.File.{offsetOf, lengthOf, recordHead, recordLength, kindByte, delayAt, delayOf, inertialOf, entriesOf, faninsOf, kindOf, gateOf}
+use Rattle.editions.specs.File.{offsetOf, lengthOf, recordHead, recordLength, kindByte, delayAt, delayOf, inertialOf, entriesOf, faninsOf, gateOf}
 use Rattle.editions.specs.Encode.{twoBytes, kindNumber, encodeDelay, encodeHead, encodeGate, encodePairs}
 use Rattle.editions.specs.Faithful.{Bytes}
-use Rattle.editions.proofs.Bytewise.{byte-any, number-stands, stands-number, two-length, list-stands, stands-list, list-length, kind-number}
+use Rattle.editions.proofs.Bytewise.{number-stands, stands-number, two-length, list-stands, stands-list, list-length, kind-number}
 
 -- ---- a delay of two bytes or of one
 

@@ -122,7 +122,8 @@ pub fn gate_at(edition: Edition, file: &[u8], j: u16) -> GateRecord
     }
 }
 
-// The same in the present edition, written out: planning and evaluation read each gate's record so.
+// The same in the present edition, written out for planning and evaluation, which read a record for every gate: it is inlined
+// there, and so is the general one in the reader.
 pub fn present_gate(file: &[u8], j: u16) -> GateRecord
     ensures { λ r. ⌜ r ≡ recordOf edition.present (now (file .entry)) j ⌝ }
 {

@@ -1,36 +1,28 @@
 -- A file written in three parts into a cleared area, how long it is, and what a call that writes one answers and leaves.
 -- Assumes nothing.
-use Prim.Native.Nat.{ℕ, suc, _+_, _-_, _*_, _<_, _≤_}
+use Prim.Native.Nat.{ℕ, suc, _+_, _*_, _≤_}
 use mathlib.Core.Path.{_≡_, refl, sym, ap, _∙_}
-use mathlib.Core.Bool.{Bool, true, false, cond}
-use mathlib.Core.List.{List, [], _∷_, _++_, flatMap, append-assoc}
+use mathlib.Core.List.{List, [], _∷_, _++_, flatMap}
 use native.Mathlib.Omega.{arith}
-use native.Mathlib.Nat.{sub-zero}
-use lib.ListN.{length, length-append, replicate}
+use lib.ListN.{length, length-append}
 use lib.Seq.{sets}
-use lib.Dec.{eqb}
 use borrow.Author.Tests.{ne-eqb}
 use Rattle.lists.specs.Ladder.{Question, firstNo, accepted, refused}
 use Rattle.lists.specs.Areas.{cleared, padded}
 use Rattle.lists.specs.Outcome.{outcome, leftUnless}
 use Rattle.lists.proofs.Ladders.{unless-none, unless-some, accepted-none}
 use Rattle.lists.proofs.Storing.{sets-append}
-use Rattle.lists.proofs.Padding.{pad-store}
-use Rattle.method.specs.Kinds.{mostFanins}
+use Rattle.lists.proofs.Padding.{pad-store, pad-none}
 use Rattle.method.specs.Circuit.{Gate, Circuit}
 use Rattle.method.proofs.Taking.{takes-range}
 use Rattle.editions.specs.declared.Edition.{Edition}
-use Rattle.editions.specs.File.{headLength, recordLength}
-use Rattle.editions.specs.Limits.{mostGates, GatesWithin, Within}
+use Rattle.editions.specs.File.{headLength}
+use Rattle.editions.specs.Limits.{GatesWithin, Within}
 use Rattle.editions.specs.Encode.{twoBytes, encodeGate, encodePairs, encode}
 use Rattle.editions.proofs.Bytewise.{two-length}
 use Rattle.editions.proofs.Written.{gate-length, pairs-length}
 use Rattle.editions.proofs.Encoded.{head-most}
 use Rattle.filing.specs.Filed.{areaLength, filedBy}
-
-zeros : (area : List ℕ) → cleared area ≡ padded (length area) []
-unfolding padded
-zeros area = rw sub-zero
 
 module _ (ed : Edition) where
   -- ---- how long
@@ -84,7 +76,7 @@ module _ (ed : Edition) where
         ∙ ap (λ (n : ℕ). sets (sets (sets (cleared area) 0 counts) 4 pairs) n records) place
         ∙ sym (sets-append (sets (cleared area) 0 counts) 4 pairs records)
         ∙ sym (sets-append (cleared area) 0 counts (pairs ++ records))
-        ∙ ap (λ (l : List ℕ). sets l 0 all) (zeros area)
+        ∙ ap (λ (l : List ℕ). sets l 0 all) (pad-none area)
         ∙ pad-store (length area) [] all 0 refl (omega (arith, fits))
 
 -- ---- the answer by the first "no"

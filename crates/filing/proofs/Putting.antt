@@ -1,13 +1,12 @@
 -- Bytes stored one part behind the other.
 -- Assumes nothing.
-use Prim.Native.Nat.{ℕ, suc, _+_, _/_, _%_, _<_, _≤_}
+use Prim.Native.Nat.{ℕ, _+_, _/_, _%_, _<_, _≤_}
 use mathlib.Core.Path.{_≡_, refl, sym, ap, _∙_}
-use mathlib.Core.Bool.{Bool, true, false, cond}
-use mathlib.Core.List.{List, [], _∷_, _++_}
-use native.Mathlib.Omega.{arith}
+use mathlib.Core.Bool.{true, false}
+use mathlib.Core.List.{List, [], _++_}
 use native.Mathlib.Numerals.{add-one}
 use lib.ListN.{length, set}
-use lib.Seq.{sets, set-out, length-sets}
+use lib.Seq.{sets, length-sets}
 use Rattle.lists.proofs.Storing.{sets-out, sets-append}
 use Rattle.method.specs.declared.Kind.{Kind}
 use Rattle.editions.specs.declared.Edition.{Edition}

@@ -1,6 +1,5 @@
 -- What a call that writes a circuit file into a lent area answers and leaves there.
 use Prim.Native.Nat.{ℕ}
-use mathlib.Core.Bool.{Bool}
 use mathlib.Core.List.{List}
 use lib.ListN.{length}
 use lib.Dec.{eqb}

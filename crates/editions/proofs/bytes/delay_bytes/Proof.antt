@@ -1,7 +1,6 @@
 -- `editions::delay_bytes` meets its contract. By its width.
 -- Assumes nothing.
 use Rattle.editions.proofs.Widths.{two-bytes, one-byte}
-use borrow.Author.Needs.{needs}
 use Rattle.editions.proofs.bytes.delay_bytes.Statement.{statement}
 use Rattle.editions.proofs.bytes.delay_bytes.Tie as tie
 

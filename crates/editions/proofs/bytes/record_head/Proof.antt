@@ -1,7 +1,6 @@
 -- `editions::record_head` meets its contract. The kind and two delays, by their width.
 -- Assumes nothing.
 use Rattle.editions.proofs.Widths.{head-of-five, head-of-three}
-use borrow.Author.Needs.{needs}
 use Rattle.editions.proofs.bytes.record_head.Statement.{statement}
 use Rattle.editions.proofs.bytes.record_head.Tie as tie
 
