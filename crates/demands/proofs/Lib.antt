@@ -8,3 +8,4 @@ pub mod Demands
 pub mod Spans
 pub mod Once
 pub mod Limits
+pub mod Pulses

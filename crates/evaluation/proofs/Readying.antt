@@ -8,13 +8,12 @@ use mathlib.Core.Path.{_≡_, sym, ap, ap₂, _∙_, fun-ext}
 use mathlib.Core.Bool.{true}
 use mathlib.Core.List.{List, map, flatten}
 use native.Mathlib.Omega.{arith}
-use native.Mathlib.Nat.{suc-mul, add-assoc, mul-le-mul-right}
 use lib.ListN.{length, getD, take}
-use lib.Seq.{take-suc, getD-take}
+use lib.Seq.{getD-take}
 use Rattle.lists.specs.Ladder.{accepted}
 use Rattle.lists.specs.Tables.{tabulate, tabulateFrom}
 use Rattle.lists.proofs.Tabled.{from-length, tabulate-at, map-from}
-use Rattle.lists.proofs.Flat.{seam-at, table-at, table-length, flat-at}
+use Rattle.lists.proofs.Flat.{seam-at, flat-at}
 use Rattle.method.specs.Kinds.{takes}
 use Rattle.method.specs.Circuit.{Circuit, gateAt}
 use Rattle.method.specs.Indices.{faninIndex}
@@ -22,7 +21,9 @@ use Rattle.method.specs.Frames.{Frames, noFrames}
 use Rattle.method.specs.Areas.{areas}
 use Rattle.method.specs.Values.{netCount}
 use Rattle.method.specs.Layout.{laid, firstFrame, frameCount, partOf, allTimes, allFanins}
-use Rattle.method.proofs.Laying.{pair-first, pair-count, inertial-part, fanin-at, frames-end, fanins-end, fanins-more, frames-below}
+use Rattle.method.proofs.Laying.{pair-first, pair-count, inertial-part, frames-end, fanins-end, frames-below}
+use Rattle.method.proofs.Rows as rows
+use Rattle.method.proofs.Rows.{rows-wide}
 use Rattle.editions.specs.declared.GateRecord.{GateRecord}
 use Rattle.circuit.specs.File.{inputsOf, gatesOf, faninAt, recordOf, circuitOf}
 use Rattle.circuit.specs.Questions.{readOf}
@@ -56,9 +57,6 @@ pub record Indexed (file : List ℕ) (near : ℕ → ℕ) (fs : List Frames) (d 
       ≡ map (λ (t : ℕ). map (λ (ss : List ℕ). faninIndex (near j) ss t) (map (timesAt fs) (gateAt (circuitOf file) j .fanins)))
       (timesAt fs (circuitOf file .inputs + j))
   pub within : (j n t : ℕ) → faninIndex (near j) (timesAt fs n) t < length (timesAt fs n)
-
-entry-fits : (k n m e : ℕ) → k < n → e < m → k * m + e < n * m
-entry-fits k n m e h l = let q : suc k * m ≤ n * m = mul-le-mul-right m h in omega (arith, suc-mul k m)
 
 module _ {file : List ℕ} {near : ℕ → ℕ} {fs : List Frames} {d i f : List ℕ} (x : Indexed file near fs d i f) (j : ℕ) (h : j < gatesOf file) where
   abbrev c : Circuit
@@ -122,17 +120,12 @@ module _ {file : List ℕ} {near : ℕ → ℕ} {fs : List Frames} {d i f : List
       ∙ map-from (λ (ss : List ℕ). faninIndex (near j) ss t) (g .entries) 0 (λ (e : ℕ). timesAt fs (fanin e)))))
 
   rows-length : length (flatten (getD fs net noFrames .rows)) ≡ length ts * g .entries
-  rows-length = rw rows-are (table-length rowOf (g .entries) row-length ts)
+  rows-length = rows-wide fs net there rowOf (g .entries) row-length ts rows-are
 
   -- the entries of the fan-in area
   pub entry-at : (k e : ℕ) → k < length ts → e < g .entries → getD f (rowsAt + k * g .entries + e) 0 ≡ faninIndex (near j) (timesAt fs (fanin e)) (getD ts k 0)
   unfolding rowOf
-  entry-at k e l m =
-      ap (λ (n : ℕ). getD f n 0) (add-assoc rowsAt (k * g .entries) e)
-      ∙ fanin-at fs (x .is) net there (k * g .entries + e) (rw rows-length (entry-fits k (length ts) (g .entries) e l m))
-      ∙ ap (λ (rs : List (List ℕ)). getD (flatten rs) (k * g .entries + e) 0) rows-are
-      ∙ table-at rowOf (g .entries) row-length ts 0 k e l m
-      ∙ tabulate-at (g .entries) _ 0 e m
+  entry-at k e l m = rows.entry-at fs net there rowOf (g .entries) row-length ts rows-are (x .is) k e l m ∙ tabulate-at (g .entries) _ 0 e m
 
   fanin-first : (e : ℕ) → e < g .entries → firstFrame d (fanin e) ≡ length (allTimes (take (fanin e) fs))
   fanin-first e l = pair-first fs (x .is) (fanin e) (omega (arith, fanin-below e l, there))
@@ -175,7 +168,7 @@ module _ {file : List ℕ} {near : ℕ → ℕ} {fs : List Frames} {d i f : List
 
   -- where the rows of the next gate start
   pub rows-next : length (allFanins (take (suc net) fs)) ≡ rowsAt + frameCount d net * g .entries
-  rows-next = rw (take-suc fs net noFrames there, own-count, ← rows-length) (fanins-more (take net fs) (getD fs net noFrames))
+  rows-next = rw own-count (rows.rows-next fs net there rowOf (g .entries) row-length ts rows-are)
 
   -- ---- it can be evaluated
 

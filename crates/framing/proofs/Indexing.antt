@@ -17,7 +17,7 @@ use Rattle.lists.proofs.Choices.{order}
 use Rattle.lists.proofs.Leading.{leading-most, leading-skip, leading-mono}
 use Rattle.method.specs.Times.{shifted, gateTimes, among, startAndRise}
 use Rattle.method.specs.Indices.{lastFrame, faninIndex, upTo, inertialIndices}
-use Rattle.method.proofs.Rising.{Rise, Starts, among-low, rise-lower, rising-among, all-shifted-among, amongSome, test-starts, starts-drop}
+use Rattle.method.proofs.Rising.{Rise, Starts, among-low, rise-lower, rising-among, all-shifted-among, amongSome, test-starts, starts-drop, time-later}
 use Rattle.method.proofs.Lasting.{leading-all, upTo-low, last-count, last-mono, last-within, last-reached, last-next, index-last}
 use Rattle.circuit.specs.File.{faninAt}
 use Rattle.method.specs.Layout.{partOf}
@@ -76,8 +76,7 @@ module _ (ss : List ℕ) (s : Starts ss) (from d time : ℕ) (low : from ≤ las
         | inr m ↦ absurd (
             let f : lastFrame ss (time - d) ≡ from + 1 = omega arith in
             let g : getD ss (from + 1) 0 ≤ time - d = rw f at (last-reached ss (time - d) s) in
-            let r : Rise (getD ss from 0) (getD ss (suc from) 0 ∷ drop (suc (suc from)) ss) = rw (drop-cons ss (suc from) 0 (omega arith)) at (starts-drop ss s from (omega arith)) in
-            let p : 1 ≤ getD ss (from + 1) 0 = rw (add-one from) (omega (arith, r .0)) in
+            let p : 1 ≤ getD ss (from + 1) 0 = omega (arith, time-later ss s from (from + 1) (omega arith) h) in
             omega arith)
       ]
 

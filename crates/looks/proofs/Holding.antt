@@ -15,7 +15,7 @@ use Rattle.lists.proofs.Choices.{either, order, or-cases}
 use Rattle.method.specs.Times.{among}
 use Rattle.method.specs.Indices.{lastFrame}
 use Rattle.method.specs.Look.{level}
-use Rattle.method.proofs.Rising.{Rise, Starts, starts-drop}
+use Rattle.method.proofs.Rising.{Starts, time-later}
 use Rattle.method.proofs.Lasting.{last-within, last-is, last-reached, last-next}
 use Rattle.looks.specs.Sight.{End, at, never, endBy, sight, sightAt}
 use Rattle.looks.specs.Holds.{Before, EndsAt, Holds}
@@ -37,14 +37,9 @@ among-frame x (t ∷ ts) e =
     ]
 
 module _ (ts : List ℕ) (starts : Starts ts) where
-  rises : (k : ℕ) → suc k < length ts → getD ts k 0 < getD ts (suc k) 0
-  rises k h =
-      let r : Rise (getD ts k 0) (getD ts (suc k) 0 ∷ drop (suc (suc k)) ts) = rw (drop-cons ts (suc k) 0 h) at (starts-drop ts starts k (omega arith)) in
-      r .0
-
   -- at a frame's own time it is the last one not later
   own-frame : (k : ℕ) → k < length ts → lastFrame ts (getD ts k 0) ≡ k
-  own-frame k h = last-is ts (getD ts k 0) starts k h (omega arith) (rises k)
+  own-frame k h = last-is ts (getD ts k 0) starts k h (omega arith) (time-later ts starts k (suc k) (omega arith))
 
   pub own-sight : (levels : List Bool) (k : ℕ) → k < length ts → sight ts levels (getD ts k 0) ≡ sightAt ts levels k
   unfolding sight

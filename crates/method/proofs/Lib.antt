@@ -21,6 +21,8 @@ pub mod Parts
 pub mod Bits
 pub mod Parity
 pub mod Lanes
+pub mod Rows
+pub mod Pulses
 pub mod InputWords
 pub mod Once
 pub mod Bench

@@ -12,7 +12,7 @@ use Rattle.method.specs.Times.{gateTimes}
 use Rattle.method.specs.Indices.{faninIndex, inertialIndices}
 use Rattle.method.specs.Frames.{Frames, inputFrames, faninRow, framesWith, gateFrames, noFrames, frames, framesAt}
 use Rattle.method.specs.Filter.{filtered}
-use Rattle.method.specs.Traces.{Trace, inputTrace, rawValue, gateTrace, noTrace, traces, traceAt}
+use Rattle.method.specs.Traces.{Trace, inputTrace, rawValue, rawValues, gateTrace, noTrace, traces, traceAt}
 use Rattle.method.specs.Machine.{Wave, inputWave, outWave, gateWave, noWave, settled, waves, machine}
 use Rattle.method.specs.Netwise.{faninTimesOf, rawOf, machineRaw, EveryNet, EveryGate, NetByNet}
 use Rattle.method.proofs.Taking.{takes-range}
@@ -63,30 +63,35 @@ module _ (c : Circuit) (ok : NoFeedback c) (j : ℕ) (h : j < length (c .gates))
   unfolding traces
   trace-of = gate-net noTrace gateTrace (λ (i : ℕ). inputTrace (s i)) c ok j h
 
-  -- by the frames of its own net
-  values-by : (f : Frames) → f ≡ framesAt c (momentsOf s) (c .inputs + j)
-      → filtered (f .inertial) (map (rawValue (gateAt c j .kind) (map (λ (m : ℕ). traceAt c s m .values) (gateAt c j .fanins))) (f .rows))
-      ≡ filtered (framesAt c (momentsOf s) (c .inputs + j) .inertial) (map (rawOf c j s) (framesAt c (momentsOf s) (c .inputs + j) .times))
-  unfolding rawValue
-  values-by f e =
-      let vs : List (List Bool) = map (λ (m : ℕ). traceAt c s m .values) (gateAt c j .fanins) in
-      let ts : List ℕ = framesAt c (momentsOf s) (c .inputs + j) .times in
-      rw e (ap (filtered (framesAt c (momentsOf s) (c .inputs + j) .inertial))
-      (ap (map (rawValue (gateAt c j .kind) vs)) (rows-of c ok j h (momentsOf s))
-      ∙ map-map (rawValue (gateAt c j .kind) vs) (faninRow (gateAt c j .delay) (faninTimesOf c j (momentsOf s))) ts
-      ∙ ap (λ (r : ℕ → Bool). map r ts) (fun-ext (λ t. ap (gateFn (gateAt c j .kind)) (row-of t (gateAt c j .fanins))))))
+  -- its raw values filtered: of its fan-ins' values, by the rows of its own net
+  abbrev own : Frames
+  own = framesAt c (momentsOf s) (c .inputs + j)
 
-  values-of : traceAt c s (c .inputs + j) .values ≡ filtered (framesAt c (momentsOf s) (c .inputs + j) .inertial) (map (rawOf c j s) (framesAt c (momentsOf s) (c .inputs + j) .times))
+  abbrev rawBy : List (List ℕ) → List Bool
+  rawBy rows = rawValues (gateAt c j) (λ (m : ℕ). traceAt c s m .values) rows
+
+  pub values-by : traceAt c s (c .inputs + j) .values ≡ filtered (own .inertial) (rawBy (own .rows))
   unfolding gateTrace
-  values-of =
-      let fanins : List Trace = map (traceAt c s) (gateAt c j .fanins) in
+  values-by =
       ap (λ (n : Trace). n .values) trace-of
       ∙ rw (map-map (λ (n : Trace). n .values) (traceAt c s) (gateAt c j .fanins))
-      (values-by (gateFrames (gateAt c j) (map (λ (n : Trace). n .frames) fanins)) (sym (ap (λ (n : Trace). n .frames) trace-of) ∙ sym (frames-are c s (c .inputs + j))))
+      (ap (λ (f : Frames). filtered (f .inertial) (rawBy (f .rows))) (sym (ap (λ (n : Trace). n .frames) trace-of) ∙ sym (frames-are c s (c .inputs + j))))
+
+  -- frame by frame
+  raw-by : rawBy (own .rows) ≡ map (rawOf c j s) (own .times)
+  unfolding rawValue
+  raw-by =
+      let raw : List ℕ → Bool = rawValue (gateAt c j .kind) (map (λ (m : ℕ). traceAt c s m .values) (gateAt c j .fanins)) in
+      ap (map raw) (rows-of c ok j h (momentsOf s))
+      ∙ map-map raw (faninRow (gateAt c j .delay) (faninTimesOf c j (momentsOf s))) (own .times)
+      ∙ ap (λ (r : ℕ → Bool). map r (own .times)) (fun-ext (λ t. ap (gateFn (gateAt c j .kind)) (row-of t (gateAt c j .fanins))))
+
+  values-of : traceAt c s (c .inputs + j) .values ≡ filtered (own .inertial) (map (rawOf c j s) (own .times))
+  values-of = values-by ∙ ap (filtered (own .inertial)) raw-by
 
   -- ---- the machine
 
-  wave-of : machine c s (c .inputs + j) ≡ outWave (gateAt c j .inertial) (machineRaw c j s)
+  pub wave-of : machine c s (c .inputs + j) ≡ outWave (gateAt c j .inertial) (machineRaw c j s)
   unfolding waves
   wave-of =
       gate-net noWave gateWave (λ (i : ℕ). inputWave (s i)) c ok j h

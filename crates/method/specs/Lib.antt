@@ -16,6 +16,7 @@ pub mod Limits
 -- How all frames lie in areas, and what is summed over them.
 pub mod Areas
 pub mod Layout
+pub mod Rows
 pub mod Sums
 pub mod First
 -- The machine that knows none of these.
@@ -31,6 +32,7 @@ pub mod Parity
 pub mod Netwise
 pub mod Agreement
 pub mod Lanes
+pub mod Pulses
 pub mod Bursts
 -- One change at 1: the rules as they were before inputs could change more than once.
 pub mod Once

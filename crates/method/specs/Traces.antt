@@ -24,6 +24,10 @@ inputTrace s = record { frames = inputFrames (changeTimes s); values = s .before
 unfoldable pub rawValue : Kind → List (List Bool) → List ℕ → Bool
 rawValue k faninValues row = gateFn k (zipWith (λ (i : ℕ) (vs : List Bool). getD vs i false) row faninValues)
 
+-- the raw values of a gate whose frames have these rows; valuesOf gives each net's values
+abbrev pub rawValues : Gate → (ℕ → List Bool) → List (List ℕ) → List Bool
+rawValues g valuesOf rows = map (rawValue (g .kind) (map valuesOf (g .fanins))) rows
+
 -- a gate, from the traces of its fan-ins: its raw values, filtered
 unfoldable pub gateTrace : Gate → List Trace → Trace
 gateTrace g fanins =
