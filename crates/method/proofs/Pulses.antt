@@ -1,6 +1,6 @@
 -- The pulse law. Where the filtered wave changes the raw one is settled, so the filtered one keeps that level for di. The frames
--- that a kept change counts have its value before and after the filter, so it is kept again. And what the filter drops is a
--- change less.
+-- that a kept change counts have its value before and after the filter, so it is kept again. And the filtered values change only
+-- to a raw value that they did not have, so the raw ones have changed since.
 -- Assumes nothing.
 use Prim.Native.Nat.{ℕ, zero, suc, _+_, _≤_, _<_, zero-le}
 use mathlib.Core.Path.{_≡_, refl, sym, ap, subst, _∙_}
