@@ -97,11 +97,11 @@ module _ (task : Task) (w : WordLists) {a : Areas} (b : Held task w a) where
         let e = word-each c m w n in
         subst Word (sym (ap (λ (ws : List ℕ). getD ws k 0) is ∙ tabulate-at (length (framesAt c m n .times)) (packedWord c m w n) 0 k (omega (arith, l, ap length is, e)))) (pack-lt lanes _)
 
+    index-each : length (inertialOf a n) ≡ length (valuesOf a n)
+    index-each = ap length inertial-are ∙ indices-each c acyclic m n there ∙ sym (ap length (values-are task w b n (omega (arith, h))) ∙ word-each c m w n)
+
     filter-alters-nothing : filteredWords (inertialOf a n) (valuesOf a n) ≡ valuesOf a n
-    filter-alters-nothing =
-        same-words (inertialOf a n) (valuesOf a n)
-        (ap length inertial-are ∙ indices-each c acyclic m n there ∙ sym (ap length (values-are task w b n (omega (arith, h))) ∙ word-each c m w n)) packed
-        (λ L l. pulses L l .again)
+    filter-alters-nothing = same-words (inertialOf a n) (valuesOf a n) index-each packed (λ L l. pulses L l .again)
 
 -- what Count answers is the number of changes of the bits
 counted : (times values : List ℕ) (L : ℕ) {count : ℕ} → countOf times values L ≡ accepted count → changes (map (lane L) values) ≡ count
@@ -137,6 +137,7 @@ pulse-law =
     record {
       pulses = λ task w left r j L h l. pulses task w (holds task w left r) j h L l;
       levels-apart = λ task w left r j L t u h l before last p q. omega (arith, levels-apart task w left r j L t u h l before p q);
+      index-each = λ task w left r j h. index-each task w (holds task w left r) j h;
       filter-alters-nothing = λ task w left r j h. filter-alters-nothing task w (holds task w left r) j h;
       count-most = count-most;
     }

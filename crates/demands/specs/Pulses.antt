@@ -54,7 +54,11 @@ pub record PulseLaw : Type 0 where
       → levelIn left (netOf task j) L (suc t) ≢ levelIn left (netOf task j) L t
       → levelIn left (netOf task j) L (suc u) ≢ levelIn left (netOf task j) L u
       → suc t + inertialDelay task j < suc u
-  -- by the filter on words: handed the net's words and its inertial indices, it leaves the words as they are, all 64 lanes
+  -- by the filter on words: each word of the net has its inertial index, and handed both the filter leaves the words as they
+  -- are, all 64 lanes
+  pub index-each : (task : Task) (w : WordLists) (left : Areas) → Ran task w left
+      → (j : ℕ) → j < length (circuitIn task .gates)
+      → length (inertialOf left (netOf task j)) ≡ length (valuesOf left (netOf task j))
   pub filter-alters-nothing : (task : Task) (w : WordLists) (left : Areas) → Ran task w left
       → (j : ℕ) → j < length (circuitIn task .gates)
       → filteredWords (inertialOf left (netOf task j)) (valuesOf left (netOf task j)) ≡ valuesOf left (netOf task j)
