@@ -70,7 +70,7 @@ def checks(name):
     program = os.path.join(ROOT, 'target', 'bin', name)
     data, text = stored(name, 'stdin'), stored(name, 'stdout')
     half = len(data) // 2
-    nothing = b'' if name in ('wave', 'convert') else b'cut\n'
+    nothing = b'' if name in ('wave', 'convert', 'measure') else b'cut\n'
     way = b'from the former edition to the present one (picoseconds)\n' if name == 'convert' else b''
     yield 'the second half comes late', late(program, [data[:half], data[half:]], 0.5) == (text, way)
     pieces = [data[k:k + 1] for k in range(half)][:2000]
@@ -85,7 +85,7 @@ def checks(name):
 
 
 wrong = 0
-names = sys.argv[1:] or ['wave', 'convert', 'cases', 'parts', 'marks', 'outside', 'conversions']
+names = sys.argv[1:] or ['wave', 'convert', 'measure', 'cases', 'parts', 'marks', 'outside', 'conversions', 'fittings']
 for name in names:
     for what, holds in checks(name):
         if not holds:

@@ -6,6 +6,7 @@ use planner::Planning;
 use testbench::show_no_end;
 use testbench::show_number;
 use testbench::show_refused;
+use testbench::show_totals;
 
 // What the reader or Run's questions answer.
 pub(crate) fn show_reading(answer: Reading) {
@@ -23,11 +24,7 @@ pub(crate) fn show_reading(answer: Reading) {
 pub(crate) fn show_planning(answer: Planning) -> bool {
     match answer {
         Planning::Planned(totals) => {
-            let last = totals.last;
-            streams::write_output(b"planned");
-            show_number(totals.frames as u64);
-            show_number(totals.fanins as u64);
-            show_number(last.0 as u64);
+            show_totals(totals);
             true
         }
         Planning::Refused(number) => {

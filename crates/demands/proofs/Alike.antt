@@ -22,9 +22,7 @@ use Rattle.circuit.specs.Task.{Task, circuitIn, momentsIn, netsIn, framesIn, ti
 use Rattle.limiting.proofs.Last.{last-yes}
 use Rattle.engine.specs.Areas.{Areas}
 use Rattle.engine.specs.Questions.{areasSuit}
-use Rattle.engine.specs.After as engine
-use Rattle.engine.proofs.Asking.{passed-again}
-use Rattle.engine.proofs.Accepted.{held, agree-all}
+use Rattle.engine.proofs.Accepted.{Held, held-passed, agree-all}
 use Rattle.expectations.specs.declared.Expectation.{Expectation}
 use Rattle.expectations.specs.Suits.{listSuits}
 use Rattle.expectations.specs.Verdict.{Verdict, verdictFrom}
@@ -33,7 +31,6 @@ use Rattle.marking.proofs.Laddered.{ladder-none}
 use Rattle.marking.proofs.Marked.{mark-accepts}
 use Rattle.marking.proofs.Spans.{Agreeing, verdict-ext}
 use Rattle.demands.specs.Answers.{SameVerdict, verdicts}
-use Rattle.demands.proofs.Holding.{first-none-fails}
 
 -- ---- the verdict reads the lane alone
 
@@ -54,27 +51,27 @@ one-circuit task task′ w same one list =
 
 -- ---- Mark accepts again, in areas of the right lengths
 
-marked-again : (task : Task) (w : WordLists) {left : Areas} → engine.LeftByRun task w left → (list : List Expectation) → listSuits (netsIn task) list ≡ true
+marked-again : (task : Task) (w : WordLists) {left : Areas} → Held task w left → (list : List Expectation) → listSuits (netsIn task) list ≡ true
     → (limit : ℕ) → limited limit (framesIn task) ≡ true → (entry : Areas) → areasSuit entry ≡ true
     → markOf task limit w entry list .answer ≡ accepted (verdict task w list)
-marked-again task w r list y limit z entry s =
+marked-again task w b list y limit z entry s =
     mark-accepts task limit w entry list
     (ladder-none task limit (lengthsOf w) entry (listSuits (netsIn task) list)
-    (passed-again task (lengthsOf w) (r .entry) entry (first-none-fails task w r) s) y
-    (last-yes limit (framesIn task) (held task w r .fit) z))
+    (held-passed task w b entry s) y
+    (last-yes limit (framesIn task) (b .fit) z))
 
 -- two answers with one verdict
 one-verdict : {x y : Answer Verdict} {v : Verdict} → x ≡ accepted v → y ≡ accepted v → SameVerdict x y
 one-verdict {x} {y} {v} p q = subst (λ (a : Answer Verdict). SameVerdict a y) (sym p) (subst (λ (a : Answer Verdict). SameVerdict (accepted v) a) (sym q) (verdicts v))
 
 pub marked-alike : (task : Task) (w : WordLists) {left : Areas} (task′ : Task) (w′ : WordLists) {left′ : Areas} (L : ℕ)
-    → engine.LeftByRun task w left → engine.LeftByRun task′ w′ left′ → circuitIn task ≡ circuitIn task′ → task .schedule ≡ task′ .schedule
+    → Held task w left → Held task′ w′ left′ → circuitIn task ≡ circuitIn task′ → task .schedule ≡ task′ .schedule
     → AgreeIn L (circuitIn task .inputs) (length (task .schedule .times)) w w′
     → (list : List Expectation) → listSuits (netsIn task) list ≡ true → Every (λ (e : Expectation). e .lane ≡ L) list
     → (limit limit′ : ℕ) → limited limit (framesIn task) ≡ true → limited limit′ (framesIn task′) ≡ true
     → (entry entry′ : Areas) → areasSuit entry ≡ true → areasSuit entry′ ≡ true
     → SameVerdict (markOf task limit w entry list .answer) (markOf task′ limit′ w′ entry′ list .answer)
-marked-alike task w task′ w′ L r r′ same one a list y only limit limit′ z z′ entry entry′ s s′ =
+marked-alike task w task′ w′ L b b′ same one a list y only limit limit′ z z′ entry entry′ s s′ =
     one-verdict
-    (marked-again task w r list y limit z entry s ∙ ap accepted (same-verdict task w w′ L (agree-all task w w′ L (held task w r) a) list only))
-    (marked-again task′ w′ r′ list (rw same at y) limit′ z′ entry′ s′ ∙ ap accepted (sym (one-circuit task task′ w′ same one list)))
+    (marked-again task w b list y limit z entry s ∙ ap accepted (same-verdict task w w′ L (agree-all task w w′ L b a) list only))
+    (marked-again task′ w′ b′ list (rw same at y) limit′ z′ entry′ s′ ∙ ap accepted (sym (one-circuit task task′ w′ same one list)))

@@ -36,8 +36,13 @@ use Rattle.converter.specs.Convert.{newerQuestions, newerFile, newerOf, olderQu
 use Rattle.converter.proofs.Both.{newer-numbered, older-numbered}
 use Rattle.engine.proofs.Answering.{all-numbered}
 use Rattle.looks.proofs.Seeing.{look-numbered}
-use Rattle.engine.proofs.Accepted.{held}
+use Rattle.engine.proofs.Accepted.{left-suits}
 use Rattle.engine.proofs.After.{after-runs, plan-left}
+use Rattle.sizes.specs.Sizes.{sizeQuestions, sizeOf}
+use Rattle.sizes.specs.Fitted.{fittedQuestions, fittedOf}
+use Rattle.sizes.proofs.Sizing.{size-numbered}
+use Rattle.sizes.proofs.Asking.{fitted-numbered}
+use Rattle.sizes.proofs.Answering.{left-fits, fitted-patterns}
 use Rattle.expectations.specs.declared.Expectation.{Expectation}
 use Rattle.expectations.specs.Suits.{listSuits}
 use Rattle.marking.specs.Questions as marking
@@ -48,7 +53,7 @@ use Rattle.marking.proofs.Marked.{mark-ran}
 use Rattle.demands.specs.Answers.{SameRefusal}
 use Rattle.demands.specs.Demands.{Demand1, Demand2Method, Demand2Lengths, Demand2Patterns, Demand2Marking, Demand3Level, Demand3Changes, Demand3Alike, Demands}
 use Rattle.demands.proofs.Deciding.{answered, leaves, leaves-unless, same-refusal}
-use Rattle.demands.proofs.Holding.{engine-ran, past-run, two-alike}
+use Rattle.demands.proofs.Holding.{held-ran, past-run, two-alike}
 use Rattle.demands.proofs.Meeting.{passes, passes-machine, fails}
 use Rattle.demands.proofs.Alike.{marked-alike}
 
@@ -61,7 +66,7 @@ mark-as-run task limit w a list y =
     ap (λ (n : ℕ). runLeft n task w a) (ladder-run task limit (lengthsOf w) a _ y)
 
 demand-1 : Demand1
-unfolding editions.readOf planOf runOf markOf levelOf countOf newerOf olderOf filedBy
+unfolding editions.readOf planOf runOf sizeOf fittedOf markOf levelOf countOf newerOf olderOf filedBy
 demand-1 =
     record {
       read = λ file. answered (circuit.questions file) (questions-numbered file) (circuit.inputsAndGatesOf file);
@@ -71,6 +76,10 @@ demand-1 =
           answered (engine.questions task limit (lengthsOf w) a) (all-numbered task (lengthsOf w) a limit) (totalsOf (framesIn task));
       run-areas = λ task limit w a.
           leaves (firstNo (engine.questions task limit (lengthsOf w) a)) (totalsOf (framesIn task)) (filled task w a) (allCleared a) a;
+      size = λ task limit. answered (sizeQuestions task limit) (size-numbered task limit) (totalsOf (framesIn task));
+      fitted = λ task limit w a.
+          answered (fittedQuestions task limit (lengthsOf w) a) (fitted-numbered task limit (lengthsOf w) a) (totalsOf (framesIn task));
+      fitted-areas = λ task limit w a. leaves-unless (firstNo (fittedQuestions task limit (lengthsOf w) a)) (totalsOf (framesIn task)) (filled task w a) a;
       mark = λ task limit w a list.
           answered (marking.questions task limit (lengthsOf w) a list) (ladder-numbered task limit (lengthsOf w) a _) (verdict task w list);
       mark-areas = λ task limit w a list.
@@ -92,12 +101,12 @@ demand-2-method =
     record {
       every-net = λ file s e. let nets = net-by-net (circuitOf file) in (nets .0, nets .1 (no-feedback (circuitOf file) (present-faithful .within file s e)));
       plan-read = λ task limit entry left totals e. accepted-read task limit entry e;
-      run-read = λ task w left r. held task w (engine-ran task w r) .read;
+      run-read = λ task w left r. held-ran task w r .read;
       plan-ordered = λ task limit entry left totals e. suited (inputsOf (task .file)) (task .schedule) (accepted-timed task limit entry e) .ordered;
-      run-ordered = λ task w left r. suited (inputsOf (task .file)) (task .schedule) (held task w (engine-ran task w r) .timed) .ordered;
+      run-ordered = λ task w left r. suited (inputsOf (task .file)) (task .schedule) (held-ran task w r .timed) .ordered;
       plan = λ task limit entry left totals e. accepted-kept task limit entry e;
-      run-plan = λ task w left r. held task w (engine-ran task w r) .plan-is;
-      run-values = λ task w left r. held task w (engine-ran task w r) .values-are;
+      run-plan = λ task w left r. held-ran task w r .plan-is;
+      run-values = λ task w left r. held-ran task w r .values-are;
       counts = λ task w left r. past-run task w left r .count-is-own;
       counts-machine = λ task w left r. past-run task w left r .count-is-machine;
     }
@@ -106,8 +115,9 @@ demand-2-lengths : Demand2Lengths
 demand-2-lengths =
     record {
       plan = λ task limit entry left totals e. accepted-lengths task limit entry e;
-      run = λ task w left r. held task w r .suits;
-      mark = λ task w list v left m. held task w (mark-ran task (m .limit) w (m .entry) list (m .marked)) .suits;
+      run = λ task w left r. left-suits task w r;
+      fitted = λ task w left r. left-fits task w r;
+      mark = λ task w list v left m. left-suits task w (mark-ran task (m .limit) w (m .entry) list (m .marked));
     }
 
 mark-patterns : (task : Task) (limit : ℕ) (w w′ : WordLists) (a : Areas) (list : List Expectation) → lengthsOf w ≡ lengthsOf w′
@@ -128,6 +138,7 @@ unfolding levelOf countOf
 demand-2-patterns =
     record {
       run = after-runs .words-alike;
+      fitted = fitted-patterns;
       mark = mark-patterns;
       level = λ times values values′ L t e.
           rw (same-questions times values values′ L e) (same-refusal (firstNo (lookQuestions times values′ L)) (sight times (map (lane L) values) t) (sight times (map (lane L) values′) t));
@@ -166,8 +177,8 @@ demand-3-alike =
       level = λ L task w left task′ w′ left′ two n t h u. two-alike L task w left task′ w′ left′ two .same-level n t h;
       count = λ L task w left task′ w′ left′ two. two-alike L task w left task′ w′ left′ two .same-count;
       marking = λ L task w left task′ w′ left′ two.
-          marked-alike task w task′ w′ L (engine-ran task w (two .ran)) (engine-ran task′ w′ (two .ran′)) (two .one-circuit) (two .one-schedule) (two .words-agree);
-      some-limit = λ task w left r. full-limited (framesIn task) (held task w (engine-ran task w r) .fit);
+          marked-alike task w task′ w′ L (held-ran task w (two .ran)) (held-ran task′ w′ (two .ran′)) (two .one-circuit) (two .one-schedule) (two .words-agree);
+      some-limit = λ task w left r. full-limited (framesIn task) (held-ran task w r .fit);
     }
 
 -- ---- all of them

@@ -21,7 +21,7 @@ use Rattle.method.specs.Limits.{mostTotalFrames}
 use Rattle.method.specs.Sums.{fits, totalsOf}
 use Rattle.limiting.specs.Questions.{lastQuestions}
 use Rattle.limiting.proofs.Last.{full-last}
-use Rattle.method.specs.WordLists.{WordLists, Lengths, lengthsOf}
+use Rattle.method.specs.WordLists.{WordLists, Lengths, lengthsOf, wordsSuit}
 use Rattle.method.specs.Once.{framesOnce, wordsSuitOnce, ones, OldRules}
 use Rattle.method.proofs.Once.{old-rules, ones-once, ones-suit}
 use Rattle.circuit.specs.File.{inputsOf, circuitOf}
@@ -71,8 +71,8 @@ module _ (file : List ℕ) where
   last-is : firstNo last ≡ firstNo (lastOnce file)
   last-is = full-last (framesIn (onceTask file)) ∙ ap (λ (fs : List Frames). firstNo ((fits fs orElse 13) ∷ [])) frames-are
 
-  words-are : (l : Lengths) → engine.wordsSuit (inputsOf file) (ones (inputsOf file)) l ≡ wordsSuitOnce (inputsOf file) l
-  unfolding engine.wordsSuit wordsSuitOnce
+  words-are : (l : Lengths) → wordsSuit (inputsOf file) (length (ones (inputsOf file) .times)) l ≡ wordsSuitOnce (inputsOf file) l
+  unfolding wordsSuit wordsSuitOnce
   words-are l = rw (length-replicate {A = ℕ} (inputsOf file) 1)
 
   plan-number : (a : plan.Areas) → firstNo (planner.questions (onceTask file) mostTotalFrames a) ≡ firstNo (planQuestions file a)
@@ -84,7 +84,7 @@ module _ (file : List ℕ) where
   unfolding engine.firstQuestions firstOnce
   first-number l a qs =
       ap firstNo (append-assoc (reader.questions file) _ qs)
-      ∙ firstNo-behind (reader.questions file) _ _ (passed-later timed (engine.areasSuit a orElse 10) (engine.wordsSuit (inputsOf file) (ones (inputsOf file)) l orElse 11) qs
+      ∙ firstNo-behind (reader.questions file) _ _ (passed-later timed (engine.areasSuit a orElse 10) (wordsSuit (inputsOf file) (length (ones (inputsOf file) .times)) l orElse 11) qs
       ∙ ap (λ (b : Bool). firstNo ((engine.areasSuit a orElse 10) ∷ (b orElse 11) ∷ qs)) (words-are l))
       ∙ sym (ap firstNo (append-assoc (reader.questions file) _ qs))
 

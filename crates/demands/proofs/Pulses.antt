@@ -42,11 +42,11 @@ use Rattle.words.proofs.Filtering.{same-words}
 use Rattle.looks.specs.Look.{lookQuestions, countOf}
 use Rattle.engine.specs.Areas.{Areas}
 use Rattle.engine.specs.After.{timesOf, valuesOf, levelIn, countIn}
-use Rattle.engine.proofs.Accepted.{Held, held}
+use Rattle.engine.proofs.Accepted.{Held}
 use Rattle.engine.proofs.After.{times-are, values-are}
 use Rattle.demands.specs.Runs.{Ran}
 use Rattle.demands.specs.Pulses.{netOf, inertialDelay, inertialOf, bitsOf, rawIn, PulseLaw}
-use Rattle.demands.proofs.Holding.{engine-ran, past-run}
+use Rattle.demands.proofs.Holding.{held-ran, past-run}
 
 -- ---- areas that hold the plan and the packed values of a task
 
@@ -112,7 +112,7 @@ counted times values L e = accepted-none (firstNo (lookQuestions times values L)
 
 module _ (task : Task) (w : WordLists) (left : Areas) (r : Ran task w left) where
   holds : Held task w left
-  holds = held task w (engine-ran task w r)
+  holds = held-ran task w r
 
   -- where Level's answer changes, the machine's level does
   level-changes : (n L t : ℕ) → n < netsIn task → L < lanes → levelIn left n L (suc t) ≢ levelIn left n L t → machineIn task w L n (suc t) ≢ machineIn task w L n t

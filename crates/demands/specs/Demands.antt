@@ -1,6 +1,6 @@
--- The conditions of purchase, sentence by sentence. The calls' contracts say that what `read`, `plan`, `run`, `level`,
--- `count`, `mark`, `newer` and `older` answer and leave is `readOf`, `planOf`, `runOf`, `levelOf`, `countOf`, `markOf`, `newerOf`
--- and `olderOf`; here stands what holds of these. `demands` in `proofs/Demands` proves it.
+-- The conditions of purchase, sentence by sentence. The calls' contracts say that what `read`, `plan`, `run`, `size`,
+-- `run_fitted`, `level`, `count`, `mark`, `newer` and `older` answer and leave is `readOf`, `planOf`, `runOf`, `sizeOf`,
+-- `fittedOf`, `levelOf`, `countOf`, `markOf`, `newerOf` and `olderOf`; here stands what holds of these. `demands` in `proofs/Demands` proves it.
 use Prim.Native.Nat.{ℕ, suc, _<_, _≤_}
 use mathlib.Core.Path.{_≡_}
 use mathlib.Core.Logic.{_≢_}
@@ -35,6 +35,9 @@ use Rattle.engine.specs.Run.{filled, runOf}
 use Rattle.looks.specs.Sight.{sight}
 use Rattle.looks.specs.Look.{lookQuestions, levelOf, countOf}
 use Rattle.engine.specs.After.{LeftByRun, timesOf, levelIn, countIn, NetParts, lastTime}
+use Rattle.sizes.specs.Sizes.{sizeQuestions, sizeOf}
+use Rattle.sizes.specs.Fitted.{justFits, fittedQuestions, fittedOf}
+use Rattle.sizes.specs.Same.{LeftByFitted}
 use Rattle.expectations.specs.declared.Expectation.{Expectation}
 use Rattle.expectations.specs.Suits.{listSuits}
 use Rattle.marking.specs.Questions as marking
@@ -60,6 +63,12 @@ pub record Demand1 : Type 0 where
       → Answered (engine.questions task limit (lengthsOf w) a) (totalsOf (framesIn task)) (runOf task limit w a .answer)
   pub run-areas : (task : Task) (limit : ℕ) (w : WordLists) (a : Areas)
       → Leaves (runOf task limit w a .answer) (filled task w a) (allCleared a) a (runOf task limit w a .left)
+  pub size : (task : Task) (limit : ℕ) → Answered (sizeQuestions task limit) (totalsOf (framesIn task)) (sizeOf task limit)
+  -- of the fitted Run no number writes
+  pub fitted : (task : Task) (limit : ℕ) (w : WordLists) (a : Areas)
+      → Answered (fittedQuestions task limit (lengthsOf w) a) (totalsOf (framesIn task)) (fittedOf task limit w a .answer)
+  pub fitted-areas : (task : Task) (limit : ℕ) (w : WordLists) (a : Areas)
+      → LeavesUnless (fittedOf task limit w a .answer) (filled task w a) a (fittedOf task limit w a .left)
   pub mark : (task : Task) (limit : ℕ) (w : WordLists) (a : Areas) (list : List Expectation)
       → Answered (marking.questions task limit (lengthsOf w) a list) (verdict task w list) (markOf task limit w a list .answer)
   pub mark-areas : (task : Task) (limit : ℕ) (w : WordLists) (a : Areas) (list : List Expectation)
@@ -105,19 +114,22 @@ pub record Demand2Method : Type 0 where
   pub counts-machine : (task : Task) (w : WordLists) (left : Areas) → Ran task w left → (n L : ℕ) → n < netsIn task → L < lanes
       → countIn left n L ≡ accepted (changedTimes (machineIn task w L n) lastTime)
 
--- the areas of an accepted Plan, Run or Mark have the lengths that question 10 asks for
+-- the areas of an accepted Plan, Run, fitted Run or Mark have the lengths that question 10 asks for
 pub record Demand2Lengths : Type 0 where
   pub plan : (task : Task) (limit : ℕ) (entry left : PlanAreas) (totals : Totals)
       → outcome (accepted totals) left ≡ planOf task limit entry → planner.areasSuit left ≡ true
   pub run : (task : Task) (w : WordLists) (left : Areas) → LeftByRun task w left → engine.areasSuit left ≡ true
+  pub fitted : (task : Task) (w : WordLists) (left : Areas) → LeftByFitted task w left → justFits task left ≡ true
   pub mark : (task : Task) (w : WordLists) (list : List Expectation) (v : Verdict) (left : Areas) → Marked task w list v left → engine.areasSuit left ≡ true
 
 -- Document 01 adds: "No pattern bit enters a number, a plan area or these totals." Word lists of equal lengths give the same
--- answer of Run; of Mark the same refusal, or two acceptances; and the same plan areas. Values of equal lengths give of Level
+-- answer of Run and of the fitted Run; of Mark the same refusal, or two acceptances; and the same plan areas. Values of equal lengths give of Level
 -- and of Count the same refusal, or two acceptances
 pub record Demand2Patterns : Type 0 where
   pub run : (task : Task) (limit : ℕ) (w w′ : WordLists) (a : Areas) → lengthsOf w ≡ lengthsOf w′
       → (runOf task limit w a .answer ≡ runOf task limit w′ a .answer) × (runOf task limit w a .left .plan ≡ runOf task limit w′ a .left .plan)
+  pub fitted : (task : Task) (limit : ℕ) (w w′ : WordLists) (a : Areas) → lengthsOf w ≡ lengthsOf w′
+      → (fittedOf task limit w a .answer ≡ fittedOf task limit w′ a .answer) × (fittedOf task limit w a .left .plan ≡ fittedOf task limit w′ a .left .plan)
   pub mark : (task : Task) (limit : ℕ) (w w′ : WordLists) (a : Areas) (list : List Expectation) → lengthsOf w ≡ lengthsOf w′
       → SameRefusal (markOf task limit w a list .answer) (markOf task limit w′ a list .answer)
       × (markOf task limit w a list .left .plan ≡ markOf task limit w′ a list .left .plan)

@@ -2,10 +2,10 @@
 -- asks for it, and `one-engine` in `proofs/Limits` proves it.
 use Prim.Native.Nat.{ℕ, _≤_}
 use mathlib.Core.Path.{_≡_}
-use mathlib.Core.List.{List}
+use mathlib.Core.List.{List, []}
 use lib.ListN.{length}
 use Rattle.lists.specs.Ladder.{accepted}
-use Rattle.lists.specs.Outcome.{Outcome}
+use Rattle.lists.specs.Outcome.{Outcome, outcome}
 use Rattle.method.specs.Limits.{mostTotalFrames}
 use Rattle.method.specs.Frames.{Frames}
 use Rattle.method.specs.Layout.{allTimes}
@@ -16,6 +16,8 @@ use Rattle.planner.specs.Plan.{planOf}
 use Rattle.engine.specs.Areas.{Areas}
 use Rattle.engine.specs.Run.{runOf}
 use Rattle.engine.specs.After.{levelIn, countIn}
+use Rattle.sizes.specs.Sizes.{sizeOf}
+use Rattle.sizes.specs.Fitted.{fittedOf}
 use Rattle.expectations.specs.declared.Expectation.{Expectation}
 use Rattle.marking.specs.Mark.{markOf}
 
@@ -34,6 +36,10 @@ pub record AsFullCourse {R S : Type 0} (fs : List Frames) (call : ℕ → Outcom
       → (1 ≤ limit) × (limit ≤ mostTotalFrames) × Accepts (call mostTotalFrames) × (length (allTimes fs) ≤ limit)
   pub whenever : 1 ≤ limit → limit ≤ mostTotalFrames → Accepts (call mostTotalFrames) → length (allTimes fs) ≤ limit → Accepts (call limit)
 
+-- what a call leaves that is lent no area
+abbrev pub noAreas : List Areas
+noAreas = []
+
 -- the same level on every net, in every lane, at every time, and the same count, in these areas and in those
 pub record SameLevels (a a′ : Areas) : Type 0 where
   pub level : (n L t : ℕ) → levelIn a n L t ≡ levelIn a′ n L t
@@ -43,6 +49,11 @@ pub record OneEngine : Type 0 where
   pub plan : (task : Task) (limit : ℕ) (a : plan.Areas) → AsFullCourse (framesIn task) (λ (l : ℕ). planOf task l a) limit
   pub run : (task : Task) (limit : ℕ) (w : WordLists) (a : Areas) → AsFullCourse (framesIn task) (λ (l : ℕ). runOf task l w a) limit
   pub mark : (task : Task) (limit : ℕ) (w : WordLists) (a : Areas) (list : List Expectation) → AsFullCourse (framesIn task) (λ (l : ℕ). markOf task l w a list) limit
+  -- Size is lent no area, so it leaves none
+  pub size : (task : Task) (limit : ℕ) → AsFullCourse (framesIn task) (λ (l : ℕ). outcome (sizeOf task l) noAreas) limit
+  pub fitted : (task : Task) (limit : ℕ) (w : WordLists) (a : Areas) → AsFullCourse (framesIn task) (λ (l : ℕ). fittedOf task l w a) limit
+  pub fitted-levels : (task : Task) (limit : ℕ) (w : WordLists) (a : Areas) → Accepts (fittedOf task limit w a)
+      → SameLevels (fittedOf task limit w a .left) (fittedOf task mostTotalFrames w a .left)
   pub run-levels : (task : Task) (limit : ℕ) (w : WordLists) (a : Areas) → Accepts (runOf task limit w a)
       → SameLevels (runOf task limit w a .left) (runOf task mostTotalFrames w a .left)
   pub mark-levels : (task : Task) (limit : ℕ) (w : WordLists) (a : Areas) (list : List Expectation) → Accepts (markOf task limit w a list)

@@ -10,6 +10,7 @@ use Rattle.method.specs.WordLists.{WordLists}
 use Rattle.circuit.specs.Task.{Task, framesIn}
 use Rattle.engine.specs.Areas.{Areas}
 use Rattle.engine.specs.After as engine
+use Rattle.sizes.specs.Same as sizes
 use Rattle.expectations.specs.declared.Expectation.{Expectation}
 use Rattle.expectations.specs.Verdict.{Verdict}
 use Rattle.marking.specs.Mark.{markOf}
@@ -21,10 +22,11 @@ pub record Marked (task : Task) (w : WordLists) (list : List Expectation) (v : V
   pub entry : Areas
   pub marked : outcome (accepted v) left ≡ markOf task limit w entry list
 
--- `left` is what an accepted run of the task with these words leaves in the areas, whatever its limit: an accepted Run, or an
--- accepted Mark with whatever list and verdict
+-- `left` is what an accepted run of the task with these words leaves in the areas, whatever its limit: an accepted Run, an
+-- accepted fitted Run, or an accepted Mark with whatever list and verdict
 pub data Ran (task : Task) (w : WordLists) (left : Areas) : Type 0 where
   by-run : engine.LeftByRun task w left → Ran task w left
+  by-fitted : sizes.LeftByFitted task w left → Ran task w left
   by-mark : (list : List Expectation) (v : Verdict) → Marked task w list v left → Ran task w left
 
 -- the four plan areas hold the frames of a task: a pair a net, the times and the inertial indices in net order, the

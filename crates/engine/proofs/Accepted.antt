@@ -12,9 +12,9 @@ use Rattle.lists.specs.Outcome.{outcome}
 use Rattle.lists.specs.Areas.{padded}
 use Rattle.lists.proofs.Choices.{and-both}
 use Rattle.lists.proofs.Padding.{pad-length, pad-kept}
-use Rattle.lists.proofs.Ladders.{first-none, unless-none}
+use Rattle.lists.proofs.Ladders.{first-none, accepted-none, unless-none}
 use Rattle.lists.proofs.Leaving.{left-none, accepted-left}
-use Rattle.method.specs.WordLists.{WordLists, Lengths, lengthsOf}
+use Rattle.method.specs.WordLists.{WordLists, Lengths, lengthsOf, wordsSuit}
 use Rattle.circuit.specs.File.{inputsOf, gatesOf}
 use Rattle.editions.specs.Questions as editions
 use Rattle.circuit.specs.Questions as reader
@@ -32,10 +32,10 @@ use Rattle.limiting.proofs.Last.{last-none}
 use Rattle.limiting.proofs.Within.{lastNo}
 use Rattle.planner.proofs.Calling.{plan-kept, plan-lengths}
 use Rattle.engine.specs.Areas.{Areas, allCleared}
-use Rattle.engine.specs.Questions.{valuesLength, areasSuit, firstQuestions, questions}
+use Rattle.engine.specs.Questions.{areasSuit, firstQuestions, questions}
 use Rattle.engine.specs.Run.{filled, runOf}
 use Rattle.engine.specs.After.{LeftByRun}
-use Rattle.engine.proofs.Asking.{Passed, passed}
+use Rattle.engine.proofs.Asking.{Passed, passed, passed-again}
 use Rattle.engine.proofs.Answering.{joined}
 
 -- ---- no question was answered no
@@ -56,21 +56,21 @@ module _ (task : Task) (limit : ℕ) (l : Lengths) (a : Areas) (e : firstNo (que
 
 -- ---- what it leaves
 
--- the areas hold the plan and the packed values of an accepted file with change times that suit it, at their own lengths, which
--- are those of question 10
+-- the areas hold the plan and the packed values of an accepted file with change times and word lists that suit it, at their own
+-- lengths
 pub record Held (task : Task) (w : WordLists) (a : Areas) : Type 0 where
   pub read : reader.readOf (task .file) ≡ accepted (record { inputs = inputsOf (task .file); gates = gatesOf (task .file) })
   pub timed : changesSuit (inputsOf (task .file)) (task .schedule) ≡ true
+  pub worded : wordsSuit (inputsOf (task .file)) (length (task .schedule .times)) (lengthsOf w) ≡ true
   pub fit : fits (framesIn task) ≡ true
   pub plan-is : a .plan ≡ laid (framesIn task) (a .plan)
   pub values-are : a .values ≡ padded (length (a .values)) (allPackedIn task w)
-  pub suits : areasSuit a ≡ true
 
 pub filled-plan : (task : Task) (w : WordLists) (a : Areas) → filled task w a .plan ≡ laid (framesIn task) (a .plan)
 unfolding filled
 filled-plan task w a = refl
 
-filled-values : (task : Task) (w : WordLists) (a : Areas) → filled task w a .values ≡ padded (length (a .values)) (allPackedIn task w)
+pub filled-values : (task : Task) (w : WordLists) (a : Areas) → filled task w a .values ≡ padded (length (a .values)) (allPackedIn task w)
 unfolding filled
 filled-values task w a = refl
 
@@ -92,28 +92,53 @@ module _ (task : Task) (w : WordLists) {a : Areas} (r : LeftByRun task w a) wher
   pub none : firstNo (questions task (r .limit) (lengthsOf w) (r .entry)) ≡ 0
   none = accepts .0
 
+  pub left-totals : totalsOf (framesIn task) ≡ r .totals
+  left-totals = accepts .1
+
   pub left-filled : a ≡ filled task w (r .entry)
   left-filled = accepts .2
 
+  yes : Passed task (lengthsOf w) (r .entry)
+  yes = yes-all task (r .limit) (lengthsOf w) (r .entry) none
+
+  reads : reader.readOf (task .file) ≡ accepted (record { inputs = inputsOf (task .file); gates = gatesOf (task .file) })
+  reads = file-read task (r .limit) (lengthsOf w) (r .entry) none
+
+  fits-all : fits (framesIn task) ≡ true
+  fits-all = plan-fit task (r .limit) (lengthsOf w) (r .entry) none
+
+  plan-is : a .plan ≡ laid (framesIn task) (r .entry .plan)
+  plan-is = ap (λ (x : Areas). x .plan) left-filled ∙ filled-plan task w (r .entry)
+
+  values-are : a .values ≡ padded (length (r .entry .values)) (allPackedIn task w)
+  values-are = ap (λ (x : Areas). x .values) left-filled ∙ filled-values task w (r .entry)
+
+  room : length (allPackedIn task w) ≤ length (r .entry .values)
+  room = omega (arith, all-words (circuitIn task) (momentsIn task) w, fits-total (framesIn task) fits-all, yes .values)
+
   pub held : Held task w a
-  unfolding areasSuit
   held =
-      let read = file-read task (r .limit) (lengthsOf w) (r .entry) none in
-      let fit = plan-fit task (r .limit) (lengthsOf w) (r .entry) none in
-      let yes = yes-all task (r .limit) (lengthsOf w) (r .entry) none in
-      let plan = ap (λ (x : Areas). x .plan) left-filled ∙ filled-plan task w (r .entry) in
-      let values = ap (λ (x : Areas). x .values) left-filled ∙ filled-values task w (r .entry) in
-      let room : length (allPackedIn task w) ≤ length (r .entry .values) =
-      omega (arith, all-words (circuitIn task) (momentsIn task) w, fits-total (framesIn task) fit, yes .values) in
-      let same : length (a .values) ≡ valuesLength = ap length values ∙ pad-length _ _ room ∙ yes .values in
       record {
-        read = read;
+        read = reads;
         timed = yes .timed;
-        fit = fit;
-        plan-is = plan-kept task read (r .entry .plan) (yes .suits) (yes .timed) fit plan;
-        values-are = pad-kept (length (r .entry .values)) (allPackedIn task w) values room;
-        suits = and-both _ _ (plan-lengths task read (r .entry .plan) (yes .suits) (yes .timed) fit plan) (eq-eqb _ _ same);
+        worded = yes .worded;
+        fit = fits-all;
+        plan-is = plan-kept task reads (r .entry .plan) (yes .suits) (yes .timed) fits-all plan-is;
+        values-are = pad-kept (length (r .entry .values)) (allPackedIn task w) values-are room;
       }
+
+  -- and they have the lengths of question 10
+  pub left-suits : areasSuit a ≡ true
+  unfolding areasSuit
+  left-suits =
+      and-both _ _ (plan-lengths task reads (r .entry .plan) (yes .suits) (yes .timed) fits-all plan-is)
+      (eq-eqb _ _ (ap length values-are ∙ pad-length (length (r .entry .values)) (allPackedIn task w) room ∙ yes .values))
+
+-- what such areas say of the questions before 13: in areas that suit, the file and the lists pass them
+pub held-passed : (task : Task) (w : WordLists) {a : Areas} → Held task w a → (entry : Areas) → areasSuit entry ≡ true → firstNo (firstQuestions task (lengthsOf w) entry) ≡ 0
+unfolding editions.readOf
+held-passed task w b entry s =
+    passed-again task (lengthsOf w) entry (accepted-none (firstNo (reader.questions (task .file))) (reader.inputsAndGatesOf (task .file)) (b .read) .0) s (b .worded) (b .timed)
 
 -- there are as many after words as changes, so words that agree do so at each change
 pub agree-all : (task : Task) (w w′ : WordLists) (L : ℕ) {a : Areas} → Held task w a → AgreeIn L (circuitIn task .inputs) (length (task .schedule .times)) w w′

@@ -11,6 +11,7 @@ use Rattle.lists.specs.Ladder.{firstNo, accepted}
 use Rattle.lists.specs.Outcome.{leftBy}
 use Rattle.lists.proofs.Ladders.{unless-none}
 use Rattle.lists.proofs.Leaving.{left-part}
+use Rattle.lists.proofs.Padding.{pad-least}
 use Rattle.method.specs.Circuit.{Circuit}
 use Rattle.method.specs.Stimulus.{Moments, Ordered}
 use Rattle.method.specs.Changes.{Schedule, momentsFrom}
@@ -21,6 +22,7 @@ use Rattle.method.specs.Machine.{machine}
 use Rattle.method.specs.Look.{changes}
 use Rattle.method.specs.Words.{lanes, lane}
 use Rattle.method.specs.Packed.{changesBefore, laneOf, packedValues}
+use Rattle.method.specs.Values.{allValues}
 use Rattle.method.specs.Agreement.{changedTimes}
 use Rattle.method.specs.Lanes.{laneLevel, laneCount, AgreeIn}
 use Rattle.method.proofs.Rising.{Starts, test-starts}
@@ -28,18 +30,18 @@ use Rattle.method.proofs.Changes.{Suited, suited}
 use Rattle.method.proofs.Netwise.{net-by-net}
 use Rattle.method.proofs.Agreement.{agreement}
 use Rattle.method.proofs.Lanes.{in-lanes, same-bits}
-use Rattle.method.specs.WordLists.{WordLists, lengthsOf}
+use Rattle.method.specs.WordLists.{WordLists, lengthsOf, wordsSuit}
 use Rattle.circuit.specs.File.{inputsOf}
 use Rattle.circuit.specs.Task.{Task, circuitIn, momentsIn, netsIn, framesIn}
 use Rattle.circuit.proofs.Bounded.{time-small}
 use Rattle.method.specs.Limits.{mostNetFrames, mostTotalFrames}
 use Rattle.method.specs.Areas as areas
-use Rattle.method.specs.Layout.{laid, firstFrame, frameCount}
+use Rattle.method.specs.Layout.{allTimes, laid, firstFrame, frameCount}
 use Rattle.method.proofs.Fitting.{fits-total, fits-net}
 use Rattle.method.proofs.Laying.{pair-first, pair-count, times-part, frames-end}
 use Rattle.engine.specs.Areas.{Areas, allCleared}
 use Rattle.planner.specs.Plan.{planOf}
-use Rattle.engine.specs.Questions.{valuesLength, wordsSuit}
+use Rattle.engine.specs.Questions.{valuesLength}
 use Rattle.engine.specs.Run.{runLeft, runOf}
 use Rattle.looks.specs.Sight.{sight, sightAt}
 use Rattle.looks.specs.Look.{lookQuestions, levelOf, levelPart, countOf}
@@ -48,7 +50,7 @@ use Rattle.looks.proofs.Seeing.{all-yes}
 use Rattle.looks.proofs.Holding.{own-sight, holds}
 use Rattle.engine.proofs.Answering.{plan-first}
 use Rattle.engine.proofs.Accepted.{Held, held, filled-plan, agree-all}
-use Rattle.method.proofs.Parts.{nets-count, word-each, words-part}
+use Rattle.method.proofs.Parts.{nets-count, word-each, all-words, words-part}
 use Rattle.circuit.proofs.Parts.{circuit-within}
 
 -- ---- a look at such parts is answered
@@ -98,11 +100,26 @@ module _ (task : Task) (w : WordLists) {a : Areas} (b : Held task w a) (n : ℕ)
   pub values-are : valuesOf a n ≡ packedValues c m w n
   values-are = words-part c m w (b .plan-is) n (length (a .values)) h (b .values-are)
 
-  inside : firstFrame (a .plan .directory) n + frameCount (a .plan .directory) n ≤ mostTotalFrames
-  inside = omega (arith, pair-first (frames c m) (b .plan-is) n there, count-is, frames-end (frames c m) n there, fits-total (frames c m) (b .fit))
+  -- they lie within what all nets have, which the areas hold
+  within-all : firstFrame (a .plan .directory) n + frameCount (a .plan .directory) n ≤ length (allTimes (frames c m))
+  within-all = omega (arith, pair-first (frames c m) (b .plan-is) n there, count-is, frames-end (frames c m) n there)
+
+  times-hold : length (allTimes (frames c m)) ≤ length (a .plan .times)
+  unfolding laid
+  times-hold = rw (ap (λ (x : areas.Areas). x .times) (b .plan-is)) (pad-least (length (a .plan .times)) (allTimes (frames c m)))
+
+  values-hold : length (allTimes (frames c m)) ≤ length (a .values)
+  values-hold = omega (arith, all-words c m w, ap length (b .values-are), pad-least (length (a .values)) (allValues c m w))
 
   net-parts : NetParts a n
-  net-parts = record { some-frame = rw count-is frames-some; few-frames = rw count-is frames-few; inside = inside }
+  net-parts =
+      record {
+        some-frame = rw count-is frames-some;
+        few-frames = rw count-is frames-few;
+        inside = omega (arith, within-all, fits-total (frames c m) (b .fit));
+        in-times = omega (arith, within-all, times-hold);
+        in-values = omega (arith, within-all, values-hold);
+      }
 
   module _ (L : ℕ) (l : L < lanes) where
     -- the lane's bits of the net's words
@@ -151,9 +168,8 @@ module _ (task : Task) (w : WordLists) {a : Areas} (b : Held task w a) (n : ℕ)
     only-at : (t : ℕ) → levelIn a n L (suc t) ≢ levelIn a n L t → among (suc t) (timesOf a n) ≡ true
     only-at t d = rw times-are (in-lanes .changes-at-times c m ordered w L l n t (λ e. d (level-lane (suc t) ∙ ap accepted e ∙ sym (level-lane t))))
 
-after-run : (task : Task) (w : WordLists) (a : Areas) → LeftByRun task w a → After task w a
-after-run task w a r =
-    let b = held task w r in
+pub after-held : (task : Task) (w : WordLists) {a : Areas} → Held task w a → After task w a
+after-held task w b =
     record {
       changes-suit = b .timed;
       parts = net-parts task w b;
@@ -190,14 +206,14 @@ module _ (task task′ : Task) (w w′ : WordLists) {a a′ : Areas} (L : ℕ) (
       ∙ ap₂ (λ (c : Circuit) (s : Schedule). accepted (laneCount L c (momentsFrom s) w′ n)) same one
       ∙ sym (count-lane task′ w′ b′ n (rw same at h) L l)
 
-runs-alike : (task task′ : Task) (w w′ : WordLists) (a a′ : Areas) (L : ℕ) → L < lanes → LeftByRun task w a → LeftByRun task′ w′ a′ → circuitIn task ≡ circuitIn task′
+pub alike-held : (task task′ : Task) (w w′ : WordLists) {a a′ : Areas} (L : ℕ) → L < lanes → Held task w a → Held task′ w′ a′ → circuitIn task ≡ circuitIn task′
     → task .schedule ≡ task′ .schedule → AgreeIn L (circuitIn task .inputs) (length (task .schedule .times)) w w′ → Alike task L a a′
-runs-alike task task′ w w′ a a′ L l r r′ same one p =
-    let sights = same-sight task task′ w w′ L l (held task w r) (held task′ w′ r′) same one p in
+alike-held task task′ w w′ L l b b′ same one p =
+    let sights = same-sight task task′ w w′ L l b b′ same one p in
     record {
       same-sight = λ n t h. sights n h t;
       same-level = λ n t h. ap levelPart (sights n h t);
-      same-count = same-count task task′ w w′ L l (held task w r) (held task′ w′ r′) same one p;
+      same-count = same-count task task′ w w′ L l b b′ same one p;
     }
 
 -- ---- what the words do not enter
@@ -218,7 +234,7 @@ words-alike task limit w w′ a p =
     (rw p, plan-left _ task w a ∙ rw p (sym (plan-left _ task w′ a)))
 
 -- what Run shares with Plan
-plan-alike : (task : Task) (limit : ℕ) (w : WordLists) (a : Areas) → length (a .values) ≡ valuesLength → wordsSuit (inputsOf (task .file)) (task .schedule) (lengthsOf w) ≡ true
+plan-alike : (task : Task) (limit : ℕ) (w : WordLists) (a : Areas) → length (a .values) ≡ valuesLength → wordsSuit (inputsOf (task .file)) (length (task .schedule .times)) (lengthsOf w) ≡ true
     → (runOf task limit w a .answer ≡ planOf task limit (a .plan) .answer) × (runOf task limit w a .left .plan ≡ planOf task limit (a .plan) .left)
 unfolding runOf planOf
 plan-alike task limit w a v suits =
@@ -226,4 +242,10 @@ plan-alike task limit w a v suits =
     (rw same, plan-left _ task w a ∙ rw same)
 
 pub after-runs : AfterRun
-after-runs = record { after-run = after-run; runs-alike = runs-alike; words-alike = words-alike; plan-alike = plan-alike }
+after-runs =
+    record {
+      after-run = λ task w a r. after-held task w (held task w r);
+      runs-alike = λ task task′ w w′ a a′ L l r r′. alike-held task task′ w w′ L l (held task w r) (held task′ w′ r′);
+      words-alike = words-alike;
+      plan-alike = plan-alike;
+    }

@@ -2,33 +2,36 @@
 -- Assumes nothing.
 use Prim.Native.Nat.{ℕ}
 use mathlib.Core.Path.{_≡_, refl, sym, ap, ap₂, _∙_}
-use mathlib.Core.Bool.{Bool, true, false, _&&_}
+use mathlib.Core.Bool.{Bool, true, false, cond, _&&_}
 use mathlib.Core.List.{List, _∷_, append-assoc}
+use lib.Dec.{eqb}
 use lib.ListN.{length}
 use borrow.Author.Tests.{eq-eqb}
-use Rattle.lists.specs.Ladder.{Question, _orElse_, firstNo, Answer, accepted, unless}
-use Rattle.lists.specs.Outcome.{Outcome, outcome}
+use Rattle.lists.specs.Ladder.{Question, _orElse_, firstNo, Answer, unless}
+use Rattle.lists.specs.Outcome.{Outcome, outcome, clears, leftBy}
 use Rattle.lists.specs.Areas.{cleared, padded}
-use Rattle.lists.proofs.Ladders.{isNumber, numbered, leavesAlone, quiet, each-append, quiet-numbered, first, first-here, firstNo-append, firstNo-behind, unless-none, unless-some}
-use Rattle.lists.proofs.Leaving.{left-none, left-clear, left-quiet}
+use Rattle.lists.proofs.Ladders.{isNumber, numbered, leavesAlone, quiet, each-append, quiet-numbered, first, first-here, firstNo-append, firstNo-behind, unless-some}
+use Rattle.lists.proofs.Leaving.{left-quiet}
 use Rattle.method.specs.Changes.{changesSuit}
-use Rattle.method.specs.WordLists.{WordLists, Lengths, lengthsOf}
+use Rattle.method.specs.WordLists.{WordLists, Lengths, lengthsOf, wordsSuit}
 use Rattle.circuit.specs.File.{inputsOf}
 use Rattle.circuit.specs.Questions as reader
 use Rattle.circuit.specs.Task.{Task, framesIn, allPackedIn}
 use Rattle.circuit.proofs.Present.{questions-quiet}
 use Rattle.method.specs.declared.Totals.{Totals}
 use Rattle.method.specs.Sums.{totalsOf}
+use Rattle.limiting.specs.declared.Planning.{Planning}
 use Rattle.limiting.specs.declared.Planning.the-variants as Q
 use Rattle.limiting.specs.Questions.{lastQuestions}
-use Rattle.limiting.specs.Planned.{onPaper}
-use Rattle.limiting.proofs.Within.{lastNo, Over, Kept}
+use Rattle.limiting.specs.Planned.{withinOf, onPaper}
+use Rattle.limiting.proofs.Within.{lastNo}
+use Rattle.simulation.specs.Simulated.{valuesLeft, Simulated}
+use Rattle.method.specs.Layout.{laid}
 use Rattle.planner.specs.Questions as plan
 use Rattle.method.specs.Areas as layout
-use Rattle.engine.specs.Areas.{Areas, areas, allCleared}
-use Rattle.engine.specs.Questions.{valuesLength, areasSuit, wordsSuit, ownQuestions, firstQuestions, questions}
+use Rattle.engine.specs.Areas.{Areas, allCleared}
+use Rattle.engine.specs.Questions.{valuesLength, areasSuit, ownQuestions, firstQuestions, questions}
 use Rattle.engine.specs.Run.{filled, runLeft, runOf}
-use Rattle.engine.specs.Steps.{Asked}
 
 -- ---- the ladder
 
@@ -55,7 +58,7 @@ unfolding firstNo
 own-alike true v w qs = rw (v, w)
 own-alike false v w qs = refl
 
-pub plan-first : (task : Task) (limit : ℕ) (l : Lengths) (a : Areas) → length (a .values) ≡ valuesLength → wordsSuit (inputsOf (task .file)) (task .schedule) l ≡ true
+pub plan-first : (task : Task) (limit : ℕ) (l : Lengths) (a : Areas) → length (a .values) ≡ valuesLength → wordsSuit (inputsOf (task .file)) (length (task .schedule .times)) l ≡ true
     → firstNo (questions task limit l a) ≡ firstNo (plan.questions task limit (a .plan))
 unfolding questions firstQuestions areasSuit plan.questions
 plan-first task limit l a v w =
@@ -91,25 +94,23 @@ module _ (task : Task) (limit : ℕ) (w : WordLists) (a : Areas) where
       refusal (joined task (lengthsOf w) a limit ∙ rw (← e) (first-here n _ h)) h
       (sym (left-quiet _ _ a (firstQuestions task (lengthsOf w) a) (first-quiet task (lengthsOf w) a) e h))
 
+  -- each area is left by the same number
+  left-each : (n : ℕ) → left n ≡ record { plan = leftBy n (laid (framesIn task) (a .plan)) (layout.allCleared (a .plan)) (a .plan); values = valuesLeft n task w (a .values) }
+  unfolding leftBy filled allCleared
+  left-each n = go (eqb n 0) (clears n)
+    where
+      go : (none many : Bool) → cond none (filled task w a) (cond many (allCleared a) a)
+          ≡ record { plan = cond none (laid (framesIn task) (a .plan)) (cond many (layout.allCleared (a .plan)) (a .plan)); values = cond none (padded (length (a .values)) (allPackedIn task w)) (cond many (cleared (a .values)) (a .values)) }
+      go true many = refl
+      go false true = refl
+      go false false = refl
+
   -- the rest is planning within the limit, and the values
-  at-last : Asked task (lengthsOf w) a → {n : ℕ} → lastNo task limit ≡ n → firstNo (questions task limit (lengthsOf w) a) ≡ n
-  at-last h e = joined task (lengthsOf w) a limit ∙ rw (h .none) e
-
--- ---- filled, and then evaluated or cleared
-
-module _ (task : Task) (limit : ℕ) (w : WordLists) {d t i f v : List ℕ} (h : Asked task (lengthsOf w) (areas d t i f v)) {d′ t′ i′ f′ v′ : List ℕ} where
-  pub simulate-no : {n : ℕ} → Over task limit (layout.areas d t i f) (layout.areas d′ t′ i′ f′) n → v′ ≡ cleared v
-      → outcome (onPaper (Q.Refused n)) (areas d′ t′ i′ f′ v′) ≡ runOf task limit w (areas d t i f v)
-  unfolding allCleared
-  simulate-no {n} o z =
-      refusal task limit w (areas d t i f v) (at-last task limit w (areas d t i f v) h (o .number)) (o .some)
-      (ap₂ (λ (x : layout.Areas) (y : List ℕ). record { plan = x; values = y }) (o .zeros) z
-      ∙ sym (left-clear (filled task w (areas d t i f v)) (allCleared (areas d t i f v)) (areas d t i f v) n (o .some) (o .clears-all)))
-
-  pub simulate-yes : {totals : Totals} → Kept task limit (layout.areas d t i f) (layout.areas d′ t′ i′ f′) totals → v′ ≡ padded (length v) (allPackedIn task w)
-      → outcome (onPaper (Q.Planned totals)) (areas d′ t′ i′ f′ v′) ≡ runOf task limit w (areas d t i f v)
-  unfolding filled onPaper
-  simulate-yes {totals} k words =
-      ap₂ (λ (x : layout.Areas) (y : List ℕ). outcome (accepted totals) (record { plan = x; values = y })) (k .filled) words
-      ∙ rw (k .totals) (sym (ran task limit w (areas d t i f v) (at-last task limit w (areas d t i f v) h (k .number))
-      ∙ rw (unless-none 0 (totalsOf (framesIn task)) refl, left-none (filled task w (areas d t i f v)) (allCleared (areas d t i f v)) (areas d t i f v))))
+  pub run-yes : firstNo (firstQuestions task (lengthsOf w) a) ≡ 0 → {r : Planning} {p : layout.Areas} {v : List ℕ} → Simulated task limit w (a .plan) (a .values) r p v
+      → outcome (onPaper r) (record { plan = p; values = v }) ≡ runOf task limit w a
+  unfolding withinOf
+  run-yes e {r} {p} {v} s =
+      let n : firstNo (questions task limit (lengthsOf w) a) ≡ lastNo task limit = joined task (lengthsOf w) a limit ∙ rw e in
+      sym (ran n
+      ∙ ap₂ (λ (x : Answer Totals) (y : Areas). outcome x y) (sym (ap (λ (o : Outcome Totals layout.Areas). o .answer) (s .plan)))
+      (left-each (lastNo task limit) ∙ ap₂ (λ (x : layout.Areas) (y : List ℕ). record { plan = x; values = y }) (sym (ap (λ (o : Outcome Totals layout.Areas). o .left) (s .plan))) (sym (s .values))))

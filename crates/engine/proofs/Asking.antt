@@ -12,20 +12,22 @@ use Rattle.lists.specs.Ladder.{_orElse_, firstNo, accepted, refused, unless}
 use Rattle.lists.proofs.Choices.{and-left, and-right}
 use Rattle.lists.proofs.Ladders.{first, first-here, first-none, firstNo-append, asked, ask-yes, ask-no, all-asked, accepted-none, refused-some, unless-none, unless-some}
 use Rattle.method.specs.Changes.{Schedule, changesSuit}
-use Rattle.method.specs.WordLists.{Lengths}
+use Rattle.method.specs.WordLists.{Lengths, wordsSuit}
 use Rattle.circuit.specs.File.{inputsOf, gatesOf}
 use Rattle.editions.specs.declared.Reading.{Reading}
 use Rattle.editions.specs.declared.Reading.the-variants as R
 use Rattle.editions.specs.Questions as editions
 use Rattle.circuit.specs.Questions as reader
-use Rattle.circuit.specs.Task.{Task}
+use Rattle.circuit.specs.Task.{Task, framesIn}
 use Rattle.circuit.proofs.Present.{questions-numbered}
 use Rattle.method.specs.Areas as planner
 use Rattle.planner.specs.Questions as plan
 use Rattle.engine.specs.Areas.{Areas, areas}
-use Rattle.engine.specs.Questions.{valuesLength, areasSuit, wordsSuit, ownQuestions, firstQuestions, questionsOf}
-use Rattle.engine.specs.Steps.{Asked}
+use Rattle.engine.specs.Questions.{valuesLength, areasSuit, ownQuestions, firstQuestions, questionsOf}
 use Rattle.circuit.proofs.Parts.{inputs-are, gates-are, reading-accepted}
+use Rattle.method.proofs.Fitting.{fits-total}
+use Rattle.planner.proofs.Calling.{given-all}
+use Rattle.simulation.specs.Simulated.{Ready}
 
 -- ---- questions 10, 11 and 20
 
@@ -40,23 +42,17 @@ module _ (inputs : ℕ) (h : Schedule) (l : Lengths) (d t i f v : List ℕ) {ok 
     values-no n = sym (ask-no (areasSuit (areas d t i f v)) 10 _ (rw (← is, not-false ok y1, ne-eqb _ _ n)))
 
     module _ (y2 : length v ≡ valuesLength) where
-      past-10 : firstNo (ownQuestions inputs h l (areas d t i f v)) ≡ firstNo ((wordsSuit inputs h l orElse 11) ∷ (changesSuit inputs h orElse 20) ∷ [])
+      past-10 : firstNo (ownQuestions inputs h l (areas d t i f v)) ≡ firstNo ((wordsSuit inputs (length (h .times)) l orElse 11) ∷ (changesSuit inputs h orElse 20) ∷ [])
       unfolding areasSuit
       past-10 = ask-yes (areasSuit (areas d t i f v)) 10 _ (rw (← is, not-false ok y1, eq-eqb _ _ y2))
 
-      pub before-no : (l .before ≡ inputs → ⊥) → 11 ≡ firstNo (ownQuestions inputs h l (areas d t i f v))
-      unfolding wordsSuit
-      before-no n = sym (past-10 ∙ ask-no (wordsSuit inputs h l) 11 _ (rw (ne-eqb _ _ n)))
+      module _ {fed : Bool} (each : fed ≡ wordsSuit inputs (length (h .times)) l) where
+        pub words-no : not fed ≡ true → 11 ≡ firstNo (ownQuestions inputs h l (areas d t i f v))
+        words-no n = sym (past-10 ∙ ask-no (wordsSuit inputs (length (h .times)) l) 11 _ (sym each ∙ not-true fed n))
 
-      module _ (y3 : l .before ≡ inputs) where
-        pub after-no : (l .after ≡ length (h .times) → ⊥) → 11 ≡ firstNo (ownQuestions inputs h l (areas d t i f v))
-        unfolding wordsSuit
-        after-no n = sym (past-10 ∙ ask-no (wordsSuit inputs h l) 11 _ (rw (eq-eqb _ _ y3, ne-eqb _ _ n)))
-
-        module _ (y4 : l .after ≡ length (h .times)) {on : Bool} (at : on ≡ changesSuit inputs h) where
+        module _ (y3 : not fed ≡ false) {on : Bool} (at : on ≡ changesSuit inputs h) where
           past-11 : firstNo (ownQuestions inputs h l (areas d t i f v)) ≡ firstNo ((changesSuit inputs h orElse 20) ∷ [])
-          unfolding wordsSuit
-          past-11 = past-10 ∙ ask-yes (wordsSuit inputs h l) 11 _ (rw (eq-eqb _ _ y3, eq-eqb _ _ y4))
+          past-11 = past-10 ∙ ask-yes (wordsSuit inputs (length (h .times)) l) 11 _ (sym each ∙ not-false fed y3)
 
           pub changes-no : not on ≡ true → 20 ≡ firstNo (ownQuestions inputs h l (areas d t i f v))
           changes-no n = sym (past-11 ∙ ask-no (changesSuit inputs h) 20 [] (sym at ∙ not-true on n))
@@ -132,39 +128,32 @@ pub record Passed (task : Task) (l : Lengths) (a : Areas) : Type 0 where
   pub reads : firstNo (reader.questions (task .file)) ≡ 0
   pub suits : plan.areasSuit (a .plan) ≡ true
   pub values : length (a .values) ≡ valuesLength
-  pub before-each : l .before ≡ inputsOf (task .file)
-  pub after-each : l .after ≡ length (task .schedule .times)
+  pub worded : wordsSuit (inputsOf (task .file)) (length (task .schedule .times)) l ≡ true
   pub timed : changesSuit (inputsOf (task .file)) (task .schedule) ≡ true
 
 areas-pass : (a : Areas) → areasSuit a ≡ true → (plan.areasSuit (a .plan) ≡ true) × (length (a .values) ≡ valuesLength)
 unfolding areasSuit
 areas-pass a e = (and-left (plan.areasSuit (a .plan)) _ e, eqb-true _ _ (and-right (plan.areasSuit (a .plan)) _ e))
 
-words-pass : (inputs : ℕ) (h : Schedule) (l : Lengths) → wordsSuit inputs h l ≡ true → (l .before ≡ inputs) × (l .after ≡ length (h .times))
-unfolding wordsSuit
-words-pass inputs h l e = (eqb-true _ _ (and-left (eqb (l .before) inputs) _ e), eqb-true _ _ (and-right (eqb (l .before) inputs) _ e))
-
 pub passed : (task : Task) (l : Lengths) (a : Areas) → firstNo (firstQuestions task l a) ≡ 0 → Passed task l a
 passed task l a h =
     let q = first-none (firstNo (reader.questions (task .file))) (firstNo (ownQuestions (inputsOf (task .file)) (task .schedule) l a)) (sym (joined task l a) ∙ h) in
     let s = asked (areasSuit a) 10 _ (λ z. omega arith) (q .1) in
-    let w = asked (wordsSuit (inputsOf (task .file)) (task .schedule) l) 11 _ (λ z. omega arith) (s .1) in
+    let w = asked (wordsSuit (inputsOf (task .file)) (length (task .schedule .times)) l) 11 _ (λ z. omega arith) (s .1) in
     let t = asked (changesSuit (inputsOf (task .file)) (task .schedule)) 20 [] (λ z. omega arith) (w .1) in
     let x = areas-pass a (s .0) in
-    let y = words-pass (inputsOf (task .file)) (task .schedule) l (w .0) in
-    record { reads = q .0; suits = x .0; values = x .1; before-each = y .0; after-each = y .1; timed = t .0 }
+    record { reads = q .0; suits = x .0; values = x .1; worded = w .0; timed = t .0 }
 
 -- so a run may follow
 pub asked-yes : (task : Task) (l : Lengths) (a : Areas) {r : Reading} → reader.onPaper r ≡ questionsOf task l a → {inputs gates : ℕ} → r ≡ R.Accepted inputs gates
-    → Asked task l a × (inputs ≡ inputsOf (task .file)) × (gates ≡ gatesOf (task .file))
+    → Ready task l (a .plan) (a .values) × (inputs ≡ inputsOf (task .file)) × (gates ≡ gatesOf (task .file))
 unfolding editions.readOf editions.inputsAndGatesOf
 asked-yes task l a f e =
-    let z = asked-none task l a f e in
-    (record { read = unless-none _ (reader.inputsAndGatesOf (task .file)) (passed task l a z .reads); none = z }, asked-inputs task l a f e, asked-gates task l a f e)
+    let y = passed task l a (asked-none task l a f e) in
+    let read = unless-none _ (reader.inputsAndGatesOf (task .file)) (y .reads) in
+    (record { given = given-all task (a .plan) read (y .suits) (y .timed); worded = y .worded; words = λ fit. omega (arith, fits-total (framesIn task) fit, y .values) }, asked-inputs task l a f e, asked-gates task l a f e)
 
--- of the areas only the lengths are asked about: others that suit pass with the same file and lists
-pub passed-again : (task : Task) (l : Lengths) (a a′ : Areas) → firstNo (firstQuestions task l a) ≡ 0 → areasSuit a′ ≡ true → firstNo (firstQuestions task l a′) ≡ 0
-passed-again task l a a′ h y =
-    let q = first-none (firstNo (reader.questions (task .file))) (firstNo (ownQuestions (inputsOf (task .file)) (task .schedule) l a)) (sym (joined task l a) ∙ h) in
-    let s = asked (areasSuit a) 10 _ (λ z. omega arith) (q .1) in
-    joined task l a′ ∙ rw (q .0) (ask-yes (areasSuit a′) 10 _ y ∙ s .1)
+-- what passed once, with whatever areas, passes in areas that suit
+pub passed-again : (task : Task) (l : Lengths) (a : Areas) → firstNo (reader.questions (task .file)) ≡ 0 → areasSuit a ≡ true → wordsSuit (inputsOf (task .file)) (length (task .schedule .times)) l ≡ true
+    → changesSuit (inputsOf (task .file)) (task .schedule) ≡ true → firstNo (firstQuestions task l a) ≡ 0
+passed-again task l a e s w t = joined task l a ∙ rw e (ask-yes (areasSuit a) 10 _ s ∙ ask-yes (wordsSuit (inputsOf (task .file)) (length (task .schedule .times)) l) 11 _ w ∙ ask-yes (changesSuit (inputsOf (task .file)) (task .schedule)) 20 [] t ∙ all-asked)

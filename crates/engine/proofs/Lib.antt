@@ -2,5 +2,4 @@
 pub mod Accepted
 pub mod After
 pub mod Asking
-pub mod Laid
 pub mod Answering

@@ -14,7 +14,7 @@ use Rattle.method.specs.Words.{lanes, lane}
 use Rattle.method.specs.Agreement.{changedTimes}
 use Rattle.method.specs.Lanes.{AgreeIn}
 use Rattle.method.specs.Changes.{changesSuit}
-use Rattle.method.specs.WordLists.{WordLists, lengthsOf}
+use Rattle.method.specs.WordLists.{WordLists, lengthsOf, wordsSuit}
 use Rattle.circuit.specs.File.{inputsOf}
 use Rattle.circuit.specs.Task.{Task, circuitIn, netsIn, timesIn, potentialIn, laneValues, machineIn, packedIn}
 use Rattle.method.specs.declared.Totals.{Totals}
@@ -22,7 +22,7 @@ use Rattle.method.specs.Limits.{mostNetFrames, mostTotalFrames}
 use Rattle.method.specs.Layout.{firstFrame, frameCount, partOf}
 use Rattle.engine.specs.Areas.{Areas}
 use Rattle.planner.specs.Plan.{planOf}
-use Rattle.engine.specs.Questions.{valuesLength, wordsSuit}
+use Rattle.engine.specs.Questions.{valuesLength}
 use Rattle.engine.specs.Run.{runOf}
 use Rattle.looks.specs.Sight.{Sight, sightAt}
 use Rattle.looks.specs.Look.{levelOf, levelPart, countOf}
@@ -69,11 +69,14 @@ pub record SightHolds (task : Task) (w : WordLists) (a : Areas) (n L t : ℕ) : 
   pub answers : sightIn a n L t ≡ accepted seen
   pub holds : Holds (potentialIn task n) (machineIn task w L n) t seen
 
--- net n's pair (o, c) in the directory: c is from 1 to 64, and o + c at most 2,048
+-- net n's pair (o, c) in the directory: c is from 1 to 64, and o + c at most 2,048 and at most the length of the times and of the
+-- values
 pub record NetParts (a : Areas) (n : ℕ) : Type 0 where
   pub some-frame : 1 ≤ frameCount (a .plan .directory) n
   pub few-frames : frameCount (a .plan .directory) n ≤ mostNetFrames
   pub inside : firstFrame (a .plan .directory) n + frameCount (a .plan .directory) n ≤ mostTotalFrames
+  pub in-times : firstFrame (a .plan .directory) n + frameCount (a .plan .directory) n ≤ length (a .plan .times)
+  pub in-values : firstFrame (a .plan .directory) n + frameCount (a .plan .directory) n ≤ length (a .values)
 
 pub record After (task : Task) (w : WordLists) (a : Areas) : Type 0 where
   -- the change times are such as question 20 lets pass
@@ -119,5 +122,5 @@ pub record AfterRun : Type 0 where
       → (runOf task limit w a .answer ≡ runOf task limit w′ a .answer) × (runOf task limit w a .left .plan ≡ runOf task limit w′ a .left .plan)
   -- Run's totals and plan areas are Plan's: where the values and the word lists have their lengths, Run answers what Plan
   -- answers of this task, this limit and these four areas, and leaves in them what Plan leaves
-  pub plan-alike : (task : Task) (limit : ℕ) (w : WordLists) (a : Areas) → length (a .values) ≡ valuesLength → wordsSuit (inputsOf (task .file)) (task .schedule) (lengthsOf w) ≡ true
+  pub plan-alike : (task : Task) (limit : ℕ) (w : WordLists) (a : Areas) → length (a .values) ≡ valuesLength → wordsSuit (inputsOf (task .file)) (length (task .schedule .times)) (lengthsOf w) ≡ true
       → (runOf task limit w a .answer ≡ planOf task limit (a .plan) .answer) × (runOf task limit w a .left .plan ≡ planOf task limit (a .plan) .left)

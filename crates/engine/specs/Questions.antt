@@ -7,7 +7,7 @@ use lib.ListN.{length}
 use lib.Dec.{eqb}
 use Rattle.lists.specs.Ladder.{Question, _orElse_, Answer, answer}
 use Rattle.method.specs.Changes.{Schedule, changesSuit}
-use Rattle.method.specs.WordLists.{Lengths}
+use Rattle.method.specs.WordLists.{Lengths, wordsSuit}
 use Rattle.circuit.specs.File.{inputsOf}
 use Rattle.circuit.specs.Questions as reader
 use Rattle.circuit.specs.Task.{Task, framesIn}
@@ -22,13 +22,9 @@ valuesLength = 2048
 unfoldable pub areasSuit : Areas → Bool
 areasSuit a = planner.areasSuit (a .plan) && eqb (length (a .values)) valuesLength
 
--- 11: Has the before list I words, and the after list as many as there are change times, as they are handed in?
-unfoldable pub wordsSuit : ℕ → Schedule → Lengths → Bool
-wordsSuit inputs h l = eqb (l .before) inputs && eqb (l .after) (length (h .times))
-
 -- Run's own questions that write nothing
 abbrev pub ownQuestions : ℕ → Schedule → Lengths → Areas → List Question
-ownQuestions inputs h l a = (areasSuit a orElse 10) ∷ (wordsSuit inputs h l orElse 11) ∷ (changesSuit inputs h orElse 20) ∷ []
+ownQuestions inputs h l a = (areasSuit a orElse 10) ∷ (wordsSuit inputs (length (h .times)) l orElse 11) ∷ (changesSuit inputs h orElse 20) ∷ []
 
 -- 1 to 11, and 20
 unfoldable pub firstQuestions : Task → Lengths → Areas → List Question

@@ -9,13 +9,13 @@ ghost use Rattle.engine.specs.Areas.{areas};
 ghost use Rattle.engine.specs.Questions.{questionsOf};
 ghost use Rattle.engine.specs.Run.{runOf};
 
-mod running;
+mod faults;
 
 use circuit::Reading;
+use faults::own_fault;
 use method::Tick;
 use planner::Planning;
-use running::own_fault;
-use running::simulate;
+use simulation::simulate;
 
 // Runs the circuit of the file, whose inputs have these counts of changes and these change times, with a before word for each
 // input and an after word for each change, inputs in order, and with no more frames than the caller's limit: questions 1 to 11,

@@ -34,6 +34,13 @@ pub record Place (a : Areas) (net : ℕ) (t : Totals) (count entries : ℕ) : Ty
   pub few-frames : t .frames + count ≤ mostTotalFrames
   pub few-fanins : t .fanins + count * entries ≤ mostFanins * mostTotalFrames
 
+-- the same of its pair and its times alone
+pub record Slot (d ts : List ℕ) (net : ℕ) (t : Totals) (count entries : ℕ) : Type 0 where
+  pub directory : 2 * net + 1 < length d
+  pub times : t .frames + count ≤ length ts
+  pub few-frames : t .frames + count ≤ mostTotalFrames
+  pub few-fanins : t .fanins + count * entries ≤ mostFanins * mostTotalFrames
+
 -- the frames of a gate with the times ts are stored: its pair, its times, its inertial indices, its fan-in rows; and the
 -- totals go from t to t′
 pub record Stored (a a′ : Areas) (net : ℕ) (t t′ : Totals) (entries : ℕ) (ts is fs : List ℕ) : Type 0 where
@@ -41,6 +48,14 @@ pub record Stored (a a′ : Areas) (net : ℕ) (t t′ : Totals) (entries : ℕ)
   pub times-are : a′ .times ≡ sets (a .times) (t .frames) ts
   pub inertial-is : a′ .inertial ≡ sets (a .inertial) (t .frames) is
   pub fanins-are : a′ .fanins ≡ sets (a .fanins) (t .fanins) fs
+  pub frames-sum : t′ .frames ≡ t .frames + length ts
+  pub fanins-sum : t′ .fanins ≡ t .fanins + length ts * entries
+  pub last-is : t′ .last .0 ≡ max (t .last .0) (getD ts (length ts - 1) 0)
+
+-- the same of its pair and its times alone
+pub record Timed (d d′ area area′ : List ℕ) (net : ℕ) (t t′ : Totals) (entries : ℕ) (ts : List ℕ) : Type 0 where
+  pub directory-is : d′ ≡ sets d (2 * net) (t .frames ∷ length ts ∷ [])
+  pub times-are : area′ ≡ sets area (t .frames) ts
   pub frames-sum : t′ .frames ≡ t .frames + length ts
   pub fanins-sum : t′ .fanins ≡ t .fanins + length ts * entries
   pub last-is : t′ .last .0 ≡ max (t .last .0) (getD ts (length ts - 1) 0)

@@ -8,7 +8,7 @@ ghost use Rattle.method.specs.Indices.{inertialIndices};
 ghost use Rattle.method.specs.Frames.{faninRow};
 ghost use Rattle.method.specs.Areas.{areas};
 ghost use Rattle.gathering.specs.Steps.{Fed, Span, spans};
-ghost use Rattle.framing.specs.Steps.{Place, Stored};
+ghost use Rattle.framing.specs.Steps.{Place, Slot, Stored, Timed};
 
 mod indices;
 
@@ -37,12 +37,28 @@ pub fn store_gate(
     requires { ⌜ Place (areas (now directory) (now times) (now inertial) (now fanins)) (net .0) totals (length (now own)) (gate .entries) ⌝ }
     ensures { λ r. ⌜ Stored (areas (now (directory .entry)) (now (times .entry)) (now (inertial .entry)) (now (fanins .entry))) (areas (now (directory .exit)) (now (times .exit)) (now (inertial .exit)) (now (fanins .exit))) (net .0) totals r (gate .entries) (now (own .entry)) (inertialIndices (gate .inertial) (now (own .entry))) (flatMap (faninRow (gate .delay) (spans (now (file .entry)) (gate .list) (gate .entries) (now (directory .entry)) (now (times .entry)))) (now (own .entry))) ⌝ }
 {
-    let count = own.len();
     let first = totals.frames;
     let at = totals.fanins;
-    let last = totals.last;
     inertial_row(own, gate.inertial, inertial, first as usize);
     index_rows(file, gate, directory, times, own, fanins, at as usize);
+    store_times(gate.entries, net, own, directory, times, totals)
+}
+
+// Writes the times of a gate with this many fan-in entries, and its pair; the totals with this gate.
+pub fn store_times(
+    entries: u16,
+    net: Net,
+    own: &[Tick],
+    directory: &mut [u16],
+    times: &mut [Tick],
+    totals: Totals,
+) -> Totals
+    requires { ⌜ Span (now own) × Slot (now directory) (now times) (net .0) totals (length (now own)) entries ⌝ }
+    ensures { λ r. ⌜ Timed (now (directory .entry)) (now (directory .exit)) (now (times .entry)) (now (times .exit)) (net .0) totals r entries (now (own .entry)) ⌝ }
+{
+    let count = own.len();
+    let first = totals.frames;
+    let last = totals.last;
     slices::store(times, first as usize, own);
     let pair = 2 * (net.0 as usize);
     directory[pair] = first;
@@ -50,7 +66,7 @@ pub fn store_gate(
     let end = own[count - 1];
     Totals {
         frames: first + count as u16,
-        fanins: at + count as u16 * gate.entries,
+        fanins: totals.fanins + count as u16 * entries,
         last: Time(slices::later_of(last.0, end)),
     }
 }

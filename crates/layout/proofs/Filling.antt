@@ -2,17 +2,25 @@
 -- Assumes nothing.
 use Prim.Native.Nat.{ℕ}
 use mathlib.Core.Path.{_≡_, sym, _∙_}
+use mathlib.Core.Bool.{true}
 use mathlib.Core.List.{List}
+use native.Mathlib.Omega.{arith}
+use lib.ListN.{length}
+use Rattle.lists.specs.Ladder.{accepted}
 use Rattle.method.specs.Frames.{Frames}
-use Rattle.circuit.specs.File.{gatesOf}
+use Rattle.circuit.specs.File.{inputsOf, gatesOf}
+use Rattle.circuit.specs.Questions.{readOf}
 use Rattle.circuit.specs.Task.{Task, circuitIn, momentsIn, framesIn}
 use Rattle.circuit.proofs.Parts.{gates-length}
 use Rattle.method.specs.declared.Totals.{Totals}
 use Rattle.layout.specs.declared.Progress.{Progress}
 use Rattle.layout.specs.declared.Progress.the-variants as P
 use Rattle.method.specs.Areas.{Areas, allCleared}
-use Rattle.method.specs.Layout.{laid}
-use Rattle.layout.specs.Steps.{framesOf, Reached, Filled}
+use Rattle.method.specs.First.{Room}
+use Rattle.method.specs.Layout.{allTimes, allInertial, laid}
+use Rattle.method.specs.Sums.{fits}
+use Rattle.layout.specs.Steps.{framesOf, Given, Reached, Filled}
+use Rattle.layout.proofs.Accepted.{nets-sized}
 use Rattle.method.proofs.Prefix.{frames-all}
 use Rattle.layout.proofs.Stepping.{never, Alike}
 
@@ -48,3 +56,16 @@ module _ (task : Task) {gates : ℕ} (all : gates ≡ gatesOf (task .file)) {a�
         stopped = λ q. rw nets-all at (h .stopped e);
         emptied = λ q. c ∙ cleared-alike l;
       }
+
+-- ---- room for all of them
+
+module _ (task : Task) where
+  every-net : framesOf task (gatesOf (task .file)) ≡ framesIn task
+  every-net = frames-all (circuitIn task) (momentsIn task) (gatesOf (task .file)) (sym (gates-length (task .file)))
+
+  pub given-room : {a : Areas} → Given task a → fits (framesIn task) ≡ true → Room (framesIn task) a
+  given-room given fit = rw every-net at (given .room (gatesOf (task .file)) (omega arith) (rw every-net fit))
+
+  -- as many inertial indices as times
+  pub even-rows : readOf (task .file) ≡ accepted (record { inputs = inputsOf (task .file); gates = gatesOf (task .file) }) → length (allInertial (framesIn task)) ≡ length (allTimes (framesIn task))
+  even-rows read = rw every-net at (nets-sized task read (gatesOf (task .file)) (omega arith) .even)

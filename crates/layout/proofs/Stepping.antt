@@ -2,12 +2,14 @@
 -- Assumes nothing.
 use Prim.Native.Nat.{ℕ, zero, suc, _+_, _-_, _*_, _≤_, _<_, max}
 use mathlib.Core.Path.{_≡_, refl, sym, ap, ap₂, _∙_}
+use mathlib.Core.Logic.{inl, inr}
 use mathlib.Core.Bool.{true, false}
 use mathlib.Core.List.{List, [], _∷_, _++_, map, flatMap}
 use native.Mathlib.Omega.{arith}
 use lib.ListN.{length, getD, take, drop, length-append}
 use lib.Seq.{sets, getD-append-seam}
 use Rattle.lists.specs.Tables.{tabulateFrom}
+use Rattle.lists.proofs.Choices.{order}
 use Rattle.method.specs.Kinds.{mostFanins}
 use Rattle.method.specs.Circuit.{Gate, gateAt}
 use Rattle.method.specs.Times.{gateTimes}
@@ -30,15 +32,26 @@ use Rattle.method.specs.Sums.{fits, latest, totalsOf}
 use Rattle.method.specs.First.{firstGates, Room}
 use Rattle.framing.specs.Steps.{Place, Stored}
 use Rattle.gathering.specs.Steps.{Put, spans, Fed, Span}
-use Rattle.layout.specs.Steps.{framesOf, Given, Going, Reached}
+use Rattle.layout.specs.Steps.{framesOf, Given, Going, Counted, Reached}
 use Rattle.gathering.proofs.Inserting.{front}
+use Rattle.gathering.proofs.Spans.{own-some}
 use Rattle.method.proofs.Laying.{Spot, spot-at, low-area, times-snoc, total-more, fanins-more, Behind, laid-snoc}
 use Rattle.method.proofs.Prefix.{faninTimes, nextFrames, next-times, next-inertial, next-rows, next-even, next-count}
 use Rattle.method.proofs.Fitting.{fits-total, fits-net, fits-more, fits-long, fits-many}
 use Rattle.layout.proofs.Accepted.{nets-sized, nets-count, nets-next, frames-early}
 use Rattle.method.proofs.Latest.{latest-append, latest-is}
 
--- ---- what is known of gate j and its net, in three stages
+-- ---- the times of a gate, counted
+
+module _ {row : List ℕ} (d : ℕ) (ss : List (List ℕ)) {n : ℕ} (p : Put row (gateTimes d ss) (1 + mostFanins * mostNetFrames) n) (first : ℕ) where
+  pub counted-over : (n ≤ mostNetFrames → n ≤ mostTotalFrames - first → ⊥) → Counted row (gateTimes d ss) first 0
+  counted-over h = record { front = λ some. absurd (some refl); few = omega arith; left = omega arith; over = λ e a b. h (omega (arith, p .size)) (omega (arith, p .size)) }
+
+  pub counted-kept : n ≤ mostNetFrames → n ≤ mostTotalFrames - first → Counted row (gateTimes d ss) first n
+  counted-kept few left =
+      record { front = λ some. p; few = few; left = left; over = λ e a b. omega (arith, p .size, own-some (gateTimes d ss) (starts-test (gateTimes d ss) (gateTimes-start d ss))) }
+
+-- ---- what is known of gate j and its net, in two stages
 
 -- own are the gate's times, not too many: there is room for them, and the areas in which they are stored hold the plan with
 -- this gate
@@ -49,19 +62,15 @@ pub record Stays (task : Task) (net j : ℕ) (a : Areas) (t : Totals) (g : GateR
   pub stepped : {a′ : Areas} {t′ : Totals} → Stored a a′ net t t′ (g .entries) own (inertialIndices (g .inertial) own) (flatMap (faninRow (g .delay) (spans (task .file) (g .list) (g .entries) (a .directory) (a .times))) own)
       → Going task (j + 1) a′ t′
 
--- own, n in number, are the gate's times
-pub record Timed (task : Task) (net j : ℕ) (a : Areas) (t : Totals) (g : GateRecord) (own : List ℕ) (n : ℕ) : Type 0 where
-  pub too-long : mostNetFrames < n → fits (framesOf task (j + 1)) ≡ false
-  pub too-many : mostTotalFrames - t .frames < n → fits (framesOf task (j + 1)) ≡ false
-  pub stays : n ≤ mostNetFrames → n ≤ mostTotalFrames - t .frames → Stays task net j a t g own
-
 -- g is the gate's record
 pub record Step (task : Task) (net j : ℕ) (a : Areas) (t : Totals) (g : GateRecord) : Type 0 where
   pub fed : Fed (task .file) g (a .directory) (a .times)
   pub frames-low : t .frames ≤ mostTotalFrames
-  -- the times as the code lends them: the first n gathered
-  pub timed : {row : List ℕ} {most n : ℕ} → Put row (gateTimes (g .delay) (spans (task .file) (g .list) (g .entries) (a .directory) (a .times))) most n
-      → Timed task net j a t g (take (n - 0) (drop 0 row)) n
+  -- its times, as they were counted
+  pub over : {row : List ℕ} → Counted row (gateTimes (g .delay) (spans (task .file) (g .list) (g .entries) (a .directory) (a .times))) (t .frames) 0 → fits (framesOf task (j + 1)) ≡ false
+  -- as the code lends them: the first n gathered
+  pub stays : {row : List ℕ} {n : ℕ} → Counted row (gateTimes (g .delay) (spans (task .file) (g .list) (g .entries) (a .directory) (a .times))) (t .frames) n → (n ≡ 0 → ⊥)
+      → Stays task net j a t g (take (n - 0) (drop 0 row))
 
 -- ---- and why it holds
 
@@ -156,12 +165,6 @@ module _ (task : Task) {a : Areas} (given : Given task a) (j : ℕ) (l : j < gat
     n-is : length (nextFrames (circuitIn task) (momentsIn task) j .times) ≡ n
     n-is = rw (← own-times) (p .size)
 
-    too-long : mostNetFrames < n → fits (framesOf task (j + 1)) ≡ false
-    too-long h = rw (nets-next task (given .read) j l) (fits-long (framesOf task j) (nextFrames (circuitIn task) (momentsIn task) j) (omega (arith, n-is)))
-
-    too-many : mostTotalFrames - t .frames < n → fits (framesOf task (j + 1)) ≡ false
-    too-many h = rw (nets-next task (given .read) j l) (fits-many (framesOf task j) (nextFrames (circuitIn task) (momentsIn task) j) (omega (arith, n-is, frames-sum)))
-
     module _ (small : n ≤ mostNetFrames) (left : n ≤ mostTotalFrames - t .frames) where
       fit-next : fits (framesOf task j ++ (nextFrames (circuitIn task) (momentsIn task) j ∷ [])) ≡ true
       fit-next = fits-more (framesOf task j) (nextFrames (circuitIn task) (momentsIn task) j) (go .fit) (omega (arith, n-is)) (omega (arith, n-is, frames-low, frames-sum))
@@ -244,11 +247,20 @@ module _ (task : Task) {a : Areas} (given : Given task a) (j : ℕ) (l : j < gat
       stays : Stays task net j a t g (take (n - 0) (drop 0 row))
       stays = record { times = times; gathered = front row n ∙ p .is; place = rw own-length place; stepped = stepped }
 
-    timed : Timed task net j a t g (take (n - 0) (drop 0 row)) n
-    timed = record { too-long = too-long; too-many = too-many; stays = stays }
+  -- too many times
+  next-length : length (gateTimes (g .delay) (spans (task .file) (g .list) (g .entries) (a .directory) (a .times))) ≡ length (nextFrames (circuitIn task) (momentsIn task) j .times)
+  next-length = ap length own-times
+
+  over : {row : List ℕ} → Counted row (gateTimes (g .delay) (spans (task .file) (g .list) (g .entries) (a .directory) (a .times))) (t .frames) 0 → fits (framesOf task (j + 1)) ≡ false
+  over k =
+      rw (nets-next task (given .read) j l)
+      (elim (order (length (nextFrames (circuitIn task) (momentsIn task) j .times)) mostNetFrames) [
+        | inl few ↦ fits-many (framesOf task j) (nextFrames (circuitIn task) (momentsIn task) j) (elim (order (length (nextFrames (circuitIn task) (momentsIn task) j .times)) (mostTotalFrames - t .frames)) [ inl left ↦ absurd (k .over refl (omega (arith, next-length)) (omega (arith, next-length))) | inr many ↦ omega (arith, many, frames-sum) ])
+        | inr long ↦ fits-long (framesOf task j) (nextFrames (circuitIn task) (momentsIn task) j) (omega (arith, long))
+      ])
 
   pub step : Step task net j a t g
-  step = record { fed = fed; frames-low = frames-low; timed = timed }
+  step = record { fed = fed; frames-low = frames-low; over = over; stays = λ k some. stays (k .front some) (k .few) (k .left) }
 
 -- ---- what is reached
 

@@ -1,5 +1,5 @@
 -- What the functions of this crate ask for and promise, gate by gate.
-use Prim.Native.Nat.{ℕ, _+_, _*_, _≤_}
+use Prim.Native.Nat.{ℕ, _+_, _-_, _*_, _≤_}
 use mathlib.Core.Path.{_≡_}
 use mathlib.Core.Bool.{true, false}
 use mathlib.Core.List.{List}
@@ -11,12 +11,15 @@ use Rattle.method.specs.Changes.{Schedule, changesSuit}
 use Rattle.method.specs.First.{firstGates, inputsOnly, Room, Inputs}
 use Rattle.method.specs.Areas.{Areas, allCleared}
 use Rattle.method.specs.Layout.{laid}
+use Rattle.method.specs.Limits.{mostNetFrames, mostTotalFrames}
+use Rattle.method.specs.Kinds.{mostFanins}
 use Rattle.method.specs.Sums.{fits, totalsOf}
 use Rattle.method.specs.declared.Totals.{Totals}
 use Rattle.circuit.specs.Limits.{mostInputs}
 use Rattle.circuit.specs.File.{inputsOf, gatesOf}
 use Rattle.circuit.specs.Questions.{readOf}
 use Rattle.circuit.specs.Task.{Task, circuitIn, momentsIn, framesIn}
+use Rattle.gathering.specs.Steps.{Put}
 use Rattle.layout.specs.declared.Progress.{Progress}
 use Rattle.layout.specs.declared.Progress.the-variants as P
 
@@ -48,6 +51,14 @@ pub record Going (task : Task) (j : ℕ) (a : Areas) (t : Totals) : Type 0 where
   pub is : a ≡ laid (framesOf task j) a
   pub totals : t ≡ totalsOf (framesOf task j)
   pub fit : fits (framesOf task j) ≡ true
+
+-- the times ts of a gate are counted against 64, and against what is left of 2,048 behind the first frames: r is their number,
+-- and they stand at the front of the row; or it is 0, and they are too many
+pub record Counted (row ts : List ℕ) (first r : ℕ) : Type 0 where
+  pub front : (r ≡ 0 → ⊥) → Put row ts (1 + mostFanins * mostNetFrames) r
+  pub few : r ≤ mostNetFrames
+  pub left : r ≤ mostTotalFrames - first
+  pub over : r ≡ 0 → length ts ≤ mostNetFrames → length ts ≤ mostTotalFrames - first → ⊥
 
 -- after n gates were tried: they are planned, or there are too many frames
 pub record Reached (task : Task) (n : ℕ) (a : Areas) (r : Progress) : Type 0 where

@@ -1,15 +1,18 @@
 // The gates, one after the other: each is planned from the nets before it.
 ghost use mathlib.Core.Path.{_≡_};
-ghost use Prim.Native.Nat.{_+_, _*_, _<_};
+ghost use Prim.Native.Nat.{_+_, _*_, _≤_, _<_};
 ghost use lib.ListN.{length};
 ghost use Rattle.method.specs.Kinds.{mostFanins};
-ghost use Rattle.method.specs.Limits.{mostNetFrames};
+ghost use Rattle.method.specs.Times.{gateTimes};
+ghost use Rattle.method.specs.Limits.{mostNetFrames, mostTotalFrames};
 ghost use Rattle.circuit.specs.File.{inputsOf, gatesOf};
 ghost use Rattle.circuit.specs.Task.{taskOf};
 ghost use Rattle.method.specs.Areas.{areas};
-ghost use Rattle.layout.specs.Steps.{Given, Going, Reached};
+ghost use Rattle.gathering.specs.Steps.{Fed, spans};
+ghost use Rattle.layout.specs.Steps.{Given, Going, Counted, Reached};
 use crate::MOST_FANINS;
 use crate::Progress;
+use circuit::GateRecord;
 use framing::store_gate;
 use gathering::gate_times;
 use method::Net;
@@ -21,7 +24,7 @@ const MOST_NET_FRAMES: usize = 64;
 const MOST_TOTAL_FRAMES: u16 = 2048;
 
 // Room for the times of any gate, from those of its fan-ins.
-const GATHERED_LENGTH: usize = MOST_FANINS * MOST_NET_FRAMES + 2;
+pub const GATHERED_LENGTH: usize = MOST_FANINS * MOST_NET_FRAMES + 2;
 
 // Plans the gates, until one shows that there are too many frames. The row in which a gate's times are gathered is made once for
 // all gates, since to clear it for each would cost more than to fill it.
@@ -87,12 +90,8 @@ fn add_gate(
     ensures { λ r. ⌜ Reached (taskOf (now (file .entry)) (now (counts .entry)) (now (changes .entry))) (j + 1) (areas (now (directory .exit)) (now (times .exit)) (now (inertial .exit)) (now (fanins .exit))) r ⌝ }
 {
     let gate = circuit::gate_at(file, j);
-    let first = totals.frames;
-    let count = gate_times(file, gate, directory, times, gathered);
-    if MOST_NET_FRAMES < count {
-        return Progress::TooMany;
-    }
-    if ((MOST_TOTAL_FRAMES - first) as usize) < count {
+    let count = time_gate(file, gate, directory, times, gathered, totals.frames);
+    if count == 0 {
         return Progress::TooMany;
     }
     let own = &gathered[0..count];
@@ -107,4 +106,28 @@ fn add_gate(
         fanins,
         totals,
     ))
+}
+
+// Puts the times of a gate at the front of `gathered`, and counts them. 0, which is no gate's count, says that they are too many
+// for a net, or too many behind the first frames.
+pub fn time_gate(
+    file: &[u8],
+    gate: GateRecord,
+    directory: &[u16],
+    times: &[Tick],
+    gathered: &mut [Tick],
+    first: u16,
+) -> usize
+    requires { ⌜ Fed (now file) gate (now directory) (now times) × (first ≤ mostTotalFrames) ⌝ }
+    requires { ⌜ 1 + mostFanins * mostNetFrames < length (now gathered) ⌝ }
+    ensures { λ r. ⌜ Counted (now (gathered .exit)) (gateTimes (gate .delay) (spans (now (file .entry)) (gate .list) (gate .entries) (now (directory .entry)) (now (times .entry)))) first r ⌝ }
+{
+    let count = gate_times(file, gate, directory, times, gathered);
+    if MOST_NET_FRAMES < count {
+        return 0;
+    }
+    if ((MOST_TOTAL_FRAMES - first) as usize) < count {
+        return 0;
+    }
+    count
 }

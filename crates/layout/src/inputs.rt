@@ -11,7 +11,7 @@ use method::Time;
 use method::Totals;
 
 // Writes the pairs and the times of the inputs into areas of zeros, and answers their totals.
-pub(crate) fn add_inputs(
+pub fn add_inputs(
     counts: &[u8],
     changes: &[Tick],
     directory: &mut [u16],

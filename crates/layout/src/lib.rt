@@ -8,8 +8,10 @@ ghost use Rattle.layout.specs.Steps.{Given, Filled};
 mod gates;
 mod inputs;
 
+pub use gates::GATHERED_LENGTH;
 use gates::add_gates;
-use inputs::add_inputs;
+pub use gates::time_gate;
+pub use inputs::add_inputs;
 use method::Tick;
 use method::Totals;
 

@@ -168,12 +168,11 @@ pairs-snoc at (f ∷ fs) x =
     ap (λ (l : List ℕ). at ∷ length (f .times) ∷ l)
     (pairs-snoc (at + length (f .times)) fs x ∙ rw (length-append (f .times) (allTimes fs), let q : (at + length (f .times)) + length (allTimes fs) ≡ at + (length (f .times) + length (allTimes fs)) = omega arith in q))
 
-pairs-length : (at : ℕ) (fs : List Frames) → length (pairs at fs) ≡ 2 * length fs
+pub pairs-length : (at : ℕ) (fs : List Frames) → length (pairs at fs) ≡ 2 * length fs
 unfolding pairs
 pairs-length at [] = refl
 pairs-length at (f ∷ fs) = omega (arith, pairs-length (at + length (f .times)) fs)
 
--- areas in which there was room for a plan are as long as before, so they hold it at their own lengths
 -- areas with room for the frames keep their lengths when they are laid out
 pub laid-lengths : (fs : List Frames) (a : Areas) → Room fs a → length (allInertial fs) ≡ length (allTimes fs)
     → (length (laid fs a .directory) ≡ length (a .directory)) × (length (laid fs a .times) ≡ length (a .times)) × (length (laid fs a .inertial) ≡ length (a .inertial)) × (length (laid fs a .fanins) ≡ length (a .fanins))

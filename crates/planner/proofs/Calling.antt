@@ -7,10 +7,10 @@ use mathlib.Core.List.{List, _∷_}
 use native.Mathlib.Omega.{arith}
 use lib.Dec.{eqb}
 use lib.ListN.{length}
-use borrow.Author.Tests.{eqb-true, not-true, not-false}
+use borrow.Author.Tests.{eqb-true, eq-eqb, not-true, not-false}
 use Rattle.lists.specs.Ladder.{Question, _orElse_, firstNo, accepted, refused, unless}
 use Rattle.lists.specs.Outcome.{leftBy, outcome}
-use Rattle.lists.proofs.Choices.{and-left, and-right}
+use Rattle.lists.proofs.Choices.{and-left, and-right, and-both}
 use Rattle.lists.proofs.Ladders.{isNumber, numbered, each-append, first, first-here, first-none, firstNo-append, asked, ask-yes, ask-no, accepted-none, refused-some, unless-none, unless-some}
 use Rattle.lists.proofs.Leaving.{left-other, left-quiet, accepted-left}
 use Rattle.circuit.specs.File.{inputsOf, gatesOf}
@@ -18,10 +18,10 @@ use Rattle.editions.specs.declared.Reading.{Reading}
 use Rattle.editions.specs.declared.Reading.the-variants as R
 use Rattle.editions.specs.Questions as editions
 use Rattle.circuit.specs.Questions as reader
-use Rattle.circuit.specs.Task.{Task, circuitIn, momentsIn, framesIn}
+use Rattle.circuit.specs.Task.{Task, framesIn}
 use Rattle.method.specs.Changes.{changesSuit}
 use Rattle.circuit.proofs.Present.{questions-quiet, questions-numbered}
-use Rattle.circuit.proofs.Parts.{gates-length, inputs-are, gates-are, few, reading-accepted}
+use Rattle.circuit.proofs.Parts.{inputs-are, gates-are, few, reading-accepted}
 use Rattle.method.specs.declared.Totals.{Totals}
 use Rattle.limiting.specs.declared.Planning.the-variants as Q
 use Rattle.limiting.specs.Questions.{lastQuestions}
@@ -30,16 +30,16 @@ use Rattle.limiting.proofs.Last.{last-none}
 use Rattle.method.specs.Limits.{mostTotalFrames}
 use Rattle.planner.specs.Limits.{directoryLength, timesLength, faninsLength}
 use Rattle.method.specs.Areas.{Areas, allCleared}
-use Rattle.method.specs.Layout.{allTimes, allInertial, laid}
+use Rattle.method.specs.Layout.{allTimes, laid}
 use Rattle.method.specs.Sums.{fits, totalsOf}
 use Rattle.planner.specs.Questions.{areasSuit, ownQuestions, questions}
 use Rattle.planner.specs.Plan.{planOf}
 use Rattle.method.specs.First.{Room}
 use Rattle.layout.specs.Steps.{framesOf, Given}
 use Rattle.method.proofs.Laying.{laid-lengths, laid-kept}
-use Rattle.method.proofs.Prefix.{frames-all}
 use Rattle.method.proofs.Fitting.{fits-total}
 use Rattle.layout.proofs.Accepted.{nets-count, nets-sized}
+use Rattle.layout.proofs.Filling.{given-room, even-rows}
 
 -- ---- question 10 gives room for every plan that fits
 
@@ -53,6 +53,10 @@ suited a e =
       eqb-true _ _ (and-left (eqb (length (a .inertial)) timesLength) _ e3),
       eqb-true _ _ (and-right (eqb (length (a .inertial)) timesLength) _ e3),
     )
+
+pub lengths-suit : (a : Areas) → length (a .directory) ≡ directoryLength → length (a .times) ≡ timesLength → length (a .inertial) ≡ timesLength → length (a .fanins) ≡ faninsLength → areasSuit a ≡ true
+unfolding areasSuit
+lengths-suit a d t i f = and-both _ _ (eq-eqb _ _ d) (and-both _ _ (eq-eqb _ _ t) (and-both _ _ (eq-eqb _ _ i) (eq-eqb _ _ f)))
 
 pub given-all : (task : Task) (a : Areas) → reader.readOf (task .file) ≡ accepted (record { inputs = inputsOf (task .file); gates = gatesOf (task .file) }) → areasSuit a ≡ true → changesSuit (inputsOf (task .file)) (task .schedule) ≡ true → Given task a
 given-all task a e y s =
@@ -71,27 +75,20 @@ given-all task a e y s =
           };
     }
 
-pub plan-room : (task : Task) (a : Areas) → reader.readOf (task .file) ≡ accepted (record { inputs = inputsOf (task .file); gates = gatesOf (task .file) }) → areasSuit a ≡ true → changesSuit (inputsOf (task .file)) (task .schedule) ≡ true → fits (framesIn task) ≡ true
-    → Room (framesIn task) a
-plan-room task a e y s fit =
-    let all = frames-all (circuitIn task) (momentsIn task) (gatesOf (task .file)) (sym (gates-length (task .file))) in
-    rw all at (given-all task a e y s .room (gatesOf (task .file)) (omega arith) (rw all fit))
-
 module _ (task : Task) (read : reader.readOf (task .file) ≡ accepted (record { inputs = inputsOf (task .file); gates = gatesOf (task .file) })) where
-  -- as many inertial indices as times
-  even-rows : length (allInertial (framesIn task)) ≡ length (allTimes (framesIn task))
-  even-rows = rw (frames-all (circuitIn task) (momentsIn task) (gatesOf (task .file)) (sym (gates-length (task .file)))) at (nets-sized task read (gatesOf (task .file)) (omega arith) .even)
-
   module _ (a : Areas) (y : areasSuit a ≡ true) (s : changesSuit (inputsOf (task .file)) (task .schedule) ≡ true) (fit : fits (framesIn task) ≡ true) {a′ : Areas} (is : a′ ≡ laid (framesIn task) a) where
+    plan-room : Room (framesIn task) a
+    plan-room = given-room task (given-all task a read y s) fit
+
     -- so the areas that hold the plan of an accepted file hold it at their own lengths
     pub plan-kept : a′ ≡ laid (framesIn task) a′
-    plan-kept = laid-kept (framesIn task) is (plan-room task a read y s fit) even-rows
+    plan-kept = laid-kept (framesIn task) is plan-room (even-rows task read)
 
     -- and keep the lengths of question 10
     pub plan-lengths : areasSuit a′ ≡ true
     unfolding areasSuit
     plan-lengths =
-        let l = laid-lengths (framesIn task) a (plan-room task a read y s fit) even-rows in
+        let l = laid-lengths (framesIn task) a plan-room (even-rows task read) in
         rw (is, l .0, l .1, l .2, l .3) y
 
 -- ---- the ladder

@@ -11,10 +11,10 @@ pub use limiting::Planning;
 use limiting::fill_within;
 use method::Tick;
 
-const DIRECTORY_LENGTH: usize = 320;
+pub const DIRECTORY_LENGTH: usize = 320;
 
 // The length of the times, and of the inertial indices.
-const TIMES_LENGTH: usize = 2048;
+pub const TIMES_LENGTH: usize = 2048;
 
 const FANINS_LENGTH: usize = 16384;
 

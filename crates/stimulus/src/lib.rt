@@ -1,4 +1,5 @@
-// The inputs' change times as a caller lends them, a count for each input and all their times: question 20.
+// What drives the inputs, as a caller lends it: a count for each input and all their change times, question 20, and their words,
+// question 11.
 ghost use mathlib.Core.Path.{_≡_};
 ghost use mathlib.Core.List.{map};
 ghost use Prim.Native.Nat.{ℕ, _≤_};
@@ -8,6 +9,7 @@ ghost use Rattle.lists.specs.Ladder.{between};
 ghost use Rattle.lists.specs.Tables.{tabulate, every};
 ghost use Rattle.method.specs.Times.{riseAbove};
 ghost use Rattle.method.specs.Changes.{schedule, startOf, momentsFrom, mostChanges, lastChange, changesSuit};
+ghost use Rattle.method.specs.WordLists.{wordLists, lengthsOf, wordsSuit};
 use method::Tick;
 use slices::ticks_between;
 
@@ -16,6 +18,16 @@ const MOST_CHANGES: u8 = 8;
 
 // and at this time at the latest.
 const LAST_CHANGE: Tick = 255;
+
+// Question 11: a before word for each input, and an after word for each change.
+pub fn words_suit(inputs: u16, changes: &[Tick], before: &[u64], after: &[u64]) -> bool
+    ensures { λ r. ⌜ r ≡ wordsSuit inputs (length (now (changes .entry))) (lengthsOf (wordLists (now (before .entry)) (now (after .entry)))) ⌝ }
+{
+    if before.len() != inputs as usize {
+        return false;
+    }
+    after.len() == changes.len()
+}
 
 // Question 20. The counts are added up only once they are as many as the inputs, and the times parted only once the sum is their
 // number: no sum wraps, and no part reaches beyond the times.

@@ -25,10 +25,11 @@ pub struct Case {
 pub fn read_case() -> Case {
     let mut head = [0u8; 24];
     let whole = read_all(&mut head);
-    case_of(head, whole && is_held(head))
+    case_of(head, whole)
 }
 
-fn case_of(head: Head, whole: bool) -> Case {
+// The case of a head, which was read before, whole or not.
+pub fn case_of(head: Head, read: bool) -> Case {
     let mut file = [0u8; 70000];
     let filled = read_all(&mut file[0..file_length(head)]);
     let mut counts = [0u8; 80];
@@ -40,7 +41,13 @@ fn case_of(head: Head, whole: bool) -> Case {
     let before = first.list;
     let after = second.list;
     Case {
-        whole: whole && filled && counted && timed.whole && first.whole && second.whole,
+        whole: read
+            && is_held(head)
+            && filled
+            && counted
+            && timed.whole
+            && first.whole
+            && second.whole,
         head: head,
         file: file,
         counts: counts,

@@ -1,5 +1,7 @@
 // Numbers and answers in print. The texts stand here, since a text is costly to check where there is much else. Where one
 // cannot be written, standard error says so.
+use method::Totals;
+
 pub fn show_number(n: u64) {
     streams::write_output(b" ");
     streams::write_decimal(n);
@@ -8,6 +10,15 @@ pub fn show_number(n: u64) {
 pub fn show_refused(number: u8) {
     streams::write_output(b"refused");
     show_number(number as u64);
+}
+
+// What a call that plans answers where it accepts: the frame total, the fan-in total and the last potential time.
+pub fn show_totals(totals: Totals) {
+    let last = totals.last;
+    streams::write_output(b"planned");
+    show_number(totals.frames as u64);
+    show_number(totals.fanins as u64);
+    show_number(last.0 as u64);
 }
 
 // Between two parts of a line.

@@ -21,7 +21,7 @@ use Rattle.method.specs.Frames.{Frames, noFrames}
 use Rattle.method.specs.Traces.{Trace, noTrace}
 use Rattle.method.specs.Values.{netCount}
 use Rattle.method.specs.Once.{framesOnce, ones, OldRules}
-use Rattle.method.specs.WordLists.{WordLists, Lengths, wordLists, lengthsOf}
+use Rattle.method.specs.WordLists.{WordLists, Lengths, wordLists, lengthsOf, wordsSuit}
 use Rattle.circuit.specs.File.{inputsOf, circuitOf}
 use Rattle.circuit.specs.Limits.{mostInputs, mostGates}
 use Rattle.editions.specs.declared.Reading.{Reading}
@@ -141,8 +141,8 @@ module _ (file part : List ℕ) where
   eachOf = record { before = each; after = each }
 
   -- where the circuit takes 1 to 32 words each, 11 asks the same of the lists and of the part
-  same-words : 1 ≤ inputsOf file → inputsOf file ≤ mostInputs → engine.wordsSuit (inputsOf file) (ones each) eachOf ≡ eqb n (16 * inputsOf file)
-  unfolding engine.wordsSuit
+  same-words : 1 ≤ inputsOf file → inputsOf file ≤ mostInputs → wordsSuit (inputsOf file) (length (ones each .times)) eachOf ≡ eqb n (16 * inputsOf file)
+  unfolding wordsSuit
   same-words h l =
       rw (eq-eqb each (length (replicate {A = ℕ} each 1)) (sym (length-replicate each 1)))
       (bool-ext _ _
@@ -185,7 +185,7 @@ module _ (file part : List ℕ) where
     behind = (changesSuit (inputsOf file) (ones each) orElse 20) ∷ lastQuestions mostTotalFrames (framesIn task)
 
     abbrev own : List Question
-    own = (engine.areasSuit a orElse 10) ∷ (engine.wordsSuit (inputsOf file) (ones each) eachOf orElse 11) ∷ behind
+    own = (engine.areasSuit a orElse 10) ∷ (wordsSuit (inputsOf file) (length (ones each .times)) eachOf orElse 11) ∷ behind
 
     run-joined : firstNo (engine.questions task mostTotalFrames eachOf a) ≡ first (firstNo (reader.questions file)) (firstNo own)
     unfolding engine.questions engine.firstQuestions

@@ -1,7 +1,7 @@
 -- `run` meets its contract: a "no" before 13 and 22 writes nothing, and `simulate` does the rest.
 -- Assumes nothing.
-use Rattle.engine.proofs.Asking.{asked-no, asked-yes}
-use Rattle.engine.proofs.Answering.{run-no}
+use Rattle.engine.proofs.Asking.{asked-no, asked-none, asked-yes}
+use Rattle.engine.proofs.Answering.{run-no, run-yes}
 use borrow.Author.Needs.{needs}
 use Rattle.engine.proofs.run.Statement.{statement}
 use Rattle.engine.proofs.run.Tie as tie
@@ -52,7 +52,7 @@ same-length-10 : tie.Need-same-length-10
 same-length-10 c = search needs
 
 returns-2 : tie.Need-returns-2
-returns-2 c = search needs
+returns-2 c = run-yes _ _ _ _ (asked-none _ _ _ (c .before .before .before .before .before .before .before .before .before .before .before .before .before .before .before .before .before .before .before .questions .ensures) (c .before .before .before .before .before .before .before .before .before .before .before .before .before .before .before .before .before .inputs .given .1)) (c .before .before .before .before .before .before .before .before .before .before .simulate .ensures)
 
 pub run-spec : {M : Type 1} → statement M
 run-spec =

@@ -21,8 +21,8 @@ known c = let s = c .before .before .before .before .before .before .before .bef
 gate-at-requires : tie.Need-gate-at-requires
 gate-at-requires c κs = search needs
 
-gate-times-requires : tie.Need-gate-times-requires
-gate-times-requires c κs = (known (c .before .before .before) .fed, search needs)
+time-gate-requires : tie.Need-time-gate-requires
+time-gate-requires c κs = let k = known (c .before .before .before) in ((k .fed, k .frames-low), search needs)
 
 same-length : tie.Need-same-length
 same-length c = search needs
@@ -34,25 +34,7 @@ same-length-3 : tie.Need-same-length-3
 same-length-3 c = search needs
 
 returns : tie.Need-returns
-returns c = reached-many _ _ _ (known (c .before .before .before .before .before .before .before) .timed (c .before .before .before .gate-times .ensures) .too-long (omega (arith, c .if1 .taken)))
-
-sub-if2 : tie.Need-sub-if2
-sub-if2 c = omega (arith, known (c .before .before .before .before .before .before .before) .frames-low)
-
-cast-if2 : tie.Need-cast-if2
-cast-if2 c = search needs
-
-same-length-4 : tie.Need-same-length-4
-same-length-4 c = search needs
-
-same-length-5 : tie.Need-same-length-5
-same-length-5 c = search needs
-
-same-length-6 : tie.Need-same-length-6
-same-length-6 c = search needs
-
-returns-2 : tie.Need-returns-2
-returns-2 c = reached-many _ _ _ (known (c .before .before .before .before .before .before .before .before) .timed (c .before .before .before .before .gate-times .ensures) .too-many (omega (arith, c .if2 .taken)))
+returns c = reached-many _ _ _ (known (c .before .before .before .before .before .before .before) .over (rw (c .if1 .taken) at (c .before .before .before .time-gate .ensures)))
 
 sub-own : tie.Need-sub-own
 sub-own c = search needs
@@ -65,9 +47,18 @@ part-own-end c = search needs
 
 store-gate-requires : tie.Need-store-gate-requires
 store-gate-requires c κs =
-    let k = known (c .before .before .before .before .before .before .before .before .before .before .before .before .before .before) in
-    let f = k .timed (c .before .before .before .before .before .before .before .before .before .before .gate-times .ensures) .stays (omega (arith, c .before .before .before .before .before .before .before .if1 .left)) (omega (arith, c .before .before .before .before .before .before .if2 .left)) in
+    let k = known (c .before .before .before .before .before .before .before .before .before .before .before .before .before) in
+    let f = k .stays (c .before .before .before .before .before .before .before .before .before .time-gate .ensures) (c .before .before .before .before .before .before .if1 .left) in
     (k .fed, ((f .times, f .gathered), f .place))
+
+same-length-4 : tie.Need-same-length-4
+same-length-4 c = search needs
+
+same-length-5 : tie.Need-same-length-5
+same-length-5 c = search needs
+
+same-length-6 : tie.Need-same-length-6
+same-length-6 c = search needs
 
 same-length-7 : tie.Need-same-length-7
 same-length-7 c = search needs
@@ -75,41 +66,26 @@ same-length-7 c = search needs
 same-length-8 : tie.Need-same-length-8
 same-length-8 c = search needs
 
-same-length-9 : tie.Need-same-length-9
-same-length-9 c = search needs
-
-same-length-10 : tie.Need-same-length-10
-same-length-10 c = search needs
-
-same-length-11 : tie.Need-same-length-11
-same-length-11 c = search needs
-
-returns-3 : tie.Need-returns-3
-returns-3 c = reached-now _ _ _ _ (known (c .before .before .before .before .before .before .before .before .before .before .before .before .before .before .before .before .before .before .before .before .before .before .before) .timed (c .before .before .before .before .before .before .before .before .before .before .before .before .before .before .before .before .before .before .before .gate-times .ensures) .stays (omega (arith, c .before .before .before .before .before .before .before .before .before .before .before .before .before .before .before .before .if1 .left)) (omega (arith, c .before .before .before .before .before .before .before .before .before .before .before .before .before .before .before .if2 .left)) .stepped (c .before .before .before .before .before .before .before .before .store-gate .ensures))
+returns-2 : tie.Need-returns-2
+returns-2 c = reached-now _ _ _ _ (known (c .before .before .before .before .before .before .before .before .before .before .before .before .before .before .before .before .before .before .before .before .before .before) .stays (c .before .before .before .before .before .before .before .before .before .before .before .before .before .before .before .before .before .before .time-gate .ensures) (c .before .before .before .before .before .before .before .before .before .before .before .before .before .before .before .if1 .left) .stepped (c .before .before .before .before .before .before .before .before .store-gate .ensures))
 
 pub add-gate-spec : {M : Type 1} → statement M
 add-gate-spec =
     tie.close
     (tie.spec
     gate-at-requires
-    gate-times-requires
+    time-gate-requires
     same-length
     same-length-2
     same-length-3
     returns
-    sub-if2
-    cast-if2
-    same-length-4
-    same-length-5
-    same-length-6
-    returns-2
     sub-own
     part-own-start
     part-own-end
     store-gate-requires
+    same-length-4
+    same-length-5
+    same-length-6
     same-length-7
     same-length-8
-    same-length-9
-    same-length-10
-    same-length-11
-    returns-3)
+    returns-2)

@@ -1,0 +1,130 @@
+-- The walk that counts is the walk that lays out, with the areas that it does not make taken as they would be.
+-- Assumes nothing.
+use Prim.Native.Nat.{ℕ, _+_, _*_}
+use mathlib.Core.Path.{_≡_, refl, sym, ap, _∙_}
+use mathlib.Core.Bool.{true, false}
+use mathlib.Core.List.{List, [], _∷_, flatMap}
+use native.Mathlib.Omega.{arith}
+use lib.ListN.{length, replicate, length-replicate}
+use lib.Seq.{sets, length-sets}
+use Rattle.method.specs.declared.Totals.{Totals}
+use Rattle.method.specs.Indices.{inertialIndices}
+use Rattle.method.specs.Frames.{faninRow}
+use Rattle.method.specs.Areas.{Areas, areas, allCleared}
+use Rattle.method.specs.Sums.{fits, totalsOf}
+use Rattle.method.specs.First.{Inputs}
+use Rattle.method.proofs.Prefix.{frames-all}
+use Rattle.editions.specs.declared.GateRecord.{GateRecord}
+use Rattle.circuit.specs.File.{inputsOf, gatesOf}
+use Rattle.circuit.specs.Task.{Task, circuitIn, momentsIn, framesIn}
+use Rattle.circuit.proofs.Parts.{gates-length}
+use Rattle.gathering.specs.Steps.{spans}
+use Rattle.framing.specs.Steps.{Slot, Timed}
+use Rattle.layout.specs.declared.Progress.{Progress}
+use Rattle.layout.specs.declared.Progress.the-variants as P
+use Rattle.layout.specs.Steps.{framesOf, Given, Open, Begun, Going}
+use Rattle.layout.proofs.Starting.{inputs-open, inputs-none, going-none}
+use Rattle.layout.proofs.Stepping.{Stays, Alike, given-alike, never}
+use Rattle.planner.specs.Limits.{directoryLength, timesLength, faninsLength}
+use Rattle.planner.specs.Questions.{areasSuit}
+use Rattle.planner.proofs.Calling.{given-all, lengths-suit}
+use Rattle.counting.specs.Steps.{Asked, Counting, CountedTo, Totalled}
+
+-- ---- the inputs, in areas of zeros
+
+module _ (task : Task) (h : Asked task) {d t : List ℕ} (zero-pairs : d ≡ replicate directoryLength 0) (zero-times : t ≡ replicate timesLength 0) where
+  -- areas that hold nothing yet, with those that are not made
+  module _ (few : ℕ) (is : few ≡ faninsLength) where
+    abbrev none : Areas
+    none = areas d t t (replicate few 0)
+
+    all-none : none ≡ allCleared none
+    unfolding allCleared
+    all-none =
+        rw (length-replicate {A = ℕ} few 0) (ap (λ (x : List ℕ). areas d x x (replicate few 0)) same-times ∙ ap (λ (x : List ℕ). areas x (replicate (length t) 0) (replicate (length t) 0) (replicate few 0)) same-pairs)
+      where
+        same-pairs : d ≡ replicate (length d) 0
+        same-pairs = zero-pairs ∙ ap (λ (n : ℕ). replicate n 0) (sym (ap length zero-pairs ∙ length-replicate {A = ℕ} directoryLength 0))
+
+        same-times : t ≡ replicate (length t) 0
+        same-times = zero-times ∙ ap (λ (n : ℕ). replicate n 0) (sym (ap length zero-times ∙ length-replicate {A = ℕ} timesLength 0))
+
+    given : Given task none
+    given =
+        given-all task none (h .read)
+        (lengths-suit none (ap length zero-pairs ∙ length-replicate {A = ℕ} directoryLength 0) (ap length zero-times ∙ length-replicate {A = ℕ} timesLength 0)
+        (ap length zero-times ∙ length-replicate {A = ℕ} timesLength 0) (length-replicate {A = ℕ} few 0 ∙ is))
+        (h .suits)
+
+  pub opened : Open (task .schedule) d t × Inputs (momentsIn task) d t 0
+  opened = (inputs-open task (given faninsLength refl) refl refl, inputs-none task (given faninsLength refl) (all-none faninsLength refl))
+
+  pub begun : {d′ t′ : List ℕ} {start : Totals} → Begun (momentsIn task) (length (task .schedule .counts)) d′ t′ start → length d′ ≡ length d → length t′ ≡ length t → Counting task 0 d′ t′ start
+  begun b p q =
+      record {
+        inertial = t;
+        fanins = replicate faninsLength 0;
+        given = given-alike (given faninsLength refl) (record { directory = p; times = q; inertial = refl; fanins = refl });
+        going = going-none task (given faninsLength refl) (all-none faninsLength refl) b;
+      }
+
+-- ---- a gate more
+
+-- there is room for its pair and its times
+pub slot : {task : Task} {net j : ℕ} {a : Areas} {t : Totals} {g : GateRecord} {own : List ℕ} → Stays task net j a t g own → Slot (a .directory) (a .times) net t (length own) (g .entries)
+slot s = record { directory = s .place .directory; times = s .place .times; few-frames = s .place .few-frames; few-fanins = s .place .few-fanins }
+
+-- what is not made is taken as if it were
+module _ {task : Task} {net j : ℕ} {d t : List ℕ} {totals : Totals} (c : Counting task j d t totals) {g : GateRecord} {own : List ℕ} (s : Stays task net j (areas d t (c .inertial) (c .fanins)) totals g own)
+    {d′ t′ : List ℕ} {totals′ : Totals} (st : Timed d d′ t t′ net totals totals′ (g .entries) own) where
+  pub counted : Counting task (j + 1) d′ t′ totals′
+  counted =
+      let rows : List ℕ = flatMap (faninRow (g .delay) (spans (task .file) (g .list) (g .entries) d t)) own in
+      record {
+        inertial = sets (c .inertial) (totals .frames) (inertialIndices (g .inertial) own);
+        fanins = sets (c .fanins) (totals .fanins) rows;
+        given =
+            given-alike (c .given)
+            (record {
+              directory = ap length (st .directory-is) ∙ length-sets d (2 * net) (totals .frames ∷ length own ∷ []);
+              times = ap length (st .times-are) ∙ length-sets t (totals .frames) own;
+              inertial = length-sets (c .inertial) (totals .frames) (inertialIndices (g .inertial) own);
+              fanins = length-sets (c .fanins) (totals .fanins) rows;
+            });
+        going =
+            s .stepped
+            (record {
+              directory-is = st .directory-is;
+              times-are = st .times-are;
+              inertial-is = refl;
+              fanins-are = refl;
+              frames-sum = st .frames-sum;
+              fanins-sum = st .fanins-sum;
+              last-is = st .last-is;
+            });
+      }
+
+-- ---- what is reached
+
+pub counted-now : {task : Task} {n : ℕ} {d t : List ℕ} {totals : Totals} → Counting task n d t totals → CountedTo task n d t (P.Planned totals)
+counted-now {task} {n} {d} {t} {totals} c = record { planned = λ u e. (let q : totals ≡ u = cc in rw q at c); stopped = λ e. absurd (never e) }
+
+pub counted-many : {task : Task} {n : ℕ} {d t : List ℕ} → fits (framesOf task n) ≡ false → CountedTo task n d t P.TooMany
+counted-many h = record { planned = λ u e. absurd (never (sym e)); stopped = λ e. h }
+
+-- all gates were tried
+module _ (task : Task) {gates : ℕ} (all : gates ≡ gatesOf (task .file)) where
+  nets-all : framesOf task gates ≡ framesIn task
+  nets-all = frames-all (circuitIn task) (momentsIn task) gates (all ∙ sym (gates-length (task .file)))
+
+  pub totalled : {d t : List ℕ} {totals : Totals} → Counting task gates d t totals → Totalled task (P.Planned totals)
+  totalled {d} {t} {totals} c =
+      record {
+        fit = λ u e. rw nets-all at (c .going .fit);
+        totals = λ u e. (let q : u ≡ totals = cc in q ∙ (rw nets-all at (c .going .totals)));
+        stopped = λ e. absurd (never e);
+      }
+
+  pub totalled-none : fits (framesOf task gates) ≡ false → Totalled task P.TooMany
+  totalled-none h =
+      record { fit = λ u e. absurd (never (sym e)); totals = λ u e. absurd (never (sym e)); stopped = λ e. rw nets-all at h }
