@@ -2,7 +2,6 @@
 -- Assumes nothing.
 use Prim.Native.Nat.{ℕ, _≤_}
 use mathlib.Core.Path.{_≡_, sym, _∙_}
-use mathlib.Core.Bool.{true}
 use mathlib.Core.List.{List, _++_}
 use native.Mathlib.Omega.{arith}
 use Rattle.lists.specs.Ladder.{Question, firstNo, accepted, refused, unless}
@@ -40,12 +39,13 @@ module _ (file : List ℕ) (own : List Question) where
 
   -- what the reader answers
   module _ {r : Reading} (f : onPaper r ≡ readOf file) where
-    pub read-no : {n : ℕ} → r ≡ R.Refused n → (firstNo (questions file ++ own) ≡ n) × (1 ≤ n)
+    -- the number of its refusal is the first, and its own
+    pub read-no : {n : ℕ} → r ≡ R.Refused n → (firstNo (questions file ++ own) ≡ n) × (1 ≤ n) × (firstNo (questions file) ≡ n)
     unfolding onPaper editions.readOf
     read-no {n} e =
         let g : unless (firstNo (questions file)) (inputsAndGatesOf file) ≡ refused n = sym f ∙ rw e in
         let q = refused-some (firstNo (questions file)) (inputsAndGatesOf file) g in
-        (joined ∙ rw (q .0) (first-here n _ (λ z. omega (arith, q .1))), q .1)
+        (joined ∙ rw (q .0) (first-here n _ (λ z. omega (arith, q .1))), q .1, q .0)
 
     pub read-yes : {inputs gates : ℕ} → r ≡ R.Accepted inputs gates
         → (readOf file ≡ accepted (record { inputs = inputsOf file; gates = gatesOf file })) × (inputs ≡ inputsOf file) × (gates ≡ gatesOf file)

@@ -1,71 +1,72 @@
 -- The walk that counts is the walk that lays out, with the areas that it does not make taken as they would be.
 -- Assumes nothing.
-use Prim.Native.Nat.{ℕ, _+_, _*_}
-use mathlib.Core.Path.{_≡_, refl, sym, ap, _∙_}
-use mathlib.Core.Bool.{true, false}
+use Prim.Native.Nat.{ℕ, _+_, _*_, _≤_}
+use mathlib.Core.Path.{_≡_, refl, sym, ap, ap₂, _∙_}
+use mathlib.Core.Bool.{false}
 use mathlib.Core.List.{List, [], _∷_, flatMap}
 use native.Mathlib.Omega.{arith}
 use lib.ListN.{length, replicate, length-replicate}
 use lib.Seq.{sets, length-sets}
 use Rattle.method.specs.declared.Totals.{Totals}
+use Rattle.method.specs.Kinds.{mostFanins}
+use Rattle.method.specs.Limits.{mostTotalFrames}
 use Rattle.method.specs.Indices.{inertialIndices}
 use Rattle.method.specs.Frames.{faninRow}
 use Rattle.method.specs.Areas.{Areas, areas, allCleared}
-use Rattle.method.specs.Sums.{fits, totalsOf}
+use Rattle.method.specs.Sums.{fits}
 use Rattle.method.specs.First.{Inputs}
 use Rattle.method.proofs.Prefix.{frames-all}
 use Rattle.editions.specs.declared.GateRecord.{GateRecord}
-use Rattle.circuit.specs.File.{inputsOf, gatesOf}
+use Rattle.circuit.specs.Limits.{mostInputs, mostGates}
+use Rattle.circuit.specs.File.{gatesOf}
 use Rattle.circuit.specs.Task.{Task, circuitIn, momentsIn, framesIn}
 use Rattle.circuit.proofs.Parts.{gates-length}
 use Rattle.gathering.specs.Steps.{spans}
 use Rattle.framing.specs.Steps.{Slot, Timed}
-use Rattle.layout.specs.declared.Progress.{Progress}
 use Rattle.layout.specs.declared.Progress.the-variants as P
-use Rattle.layout.specs.Steps.{framesOf, Given, Open, Begun, Going}
+use Rattle.layout.specs.Steps.{framesOf, Given, Open, Begun}
+use Rattle.layout.proofs.Accepted.{given-long}
 use Rattle.layout.proofs.Starting.{inputs-open, inputs-none, going-none}
-use Rattle.layout.proofs.Stepping.{Stays, Alike, given-alike, never}
-use Rattle.planner.specs.Limits.{directoryLength, timesLength, faninsLength}
-use Rattle.planner.specs.Questions.{areasSuit}
-use Rattle.planner.proofs.Calling.{given-all, lengths-suit}
+use Rattle.layout.proofs.Stepping.{Stays, given-alike, never}
 use Rattle.counting.specs.Steps.{Asked, Counting, CountedTo, Totalled}
 
 -- ---- the inputs, in areas of zeros
 
-module _ (task : Task) (h : Asked task) {d t : List ℕ} (zero-pairs : d ≡ replicate directoryLength 0) (zero-times : t ≡ replicate timesLength 0) where
+module _ (task : Task) (h : Asked task) {d t : List ℕ} (zero-pairs : d ≡ replicate (2 * (mostInputs + mostGates)) 0) (zero-times : t ≡ replicate mostTotalFrames 0) where
+  pairs-long : length d ≡ 2 * (mostInputs + mostGates)
+  pairs-long = ap length zero-pairs ∙ length-replicate {A = ℕ} (2 * (mostInputs + mostGates)) 0
+
+  times-long : length t ≡ mostTotalFrames
+  times-long = ap length zero-times ∙ length-replicate {A = ℕ} mostTotalFrames 0
+
   -- areas that hold nothing yet, with those that are not made
-  module _ (few : ℕ) (is : few ≡ faninsLength) where
+  module _ (most : ℕ) (enough : mostFanins * mostTotalFrames ≤ most) where
     abbrev none : Areas
-    none = areas d t t (replicate few 0)
+    none = areas d t t (replicate most 0)
 
     all-none : none ≡ allCleared none
     unfolding allCleared
     all-none =
-        rw (length-replicate {A = ℕ} few 0) (ap (λ (x : List ℕ). areas d x x (replicate few 0)) same-times ∙ ap (λ (x : List ℕ). areas x (replicate (length t) 0) (replicate (length t) 0) (replicate few 0)) same-pairs)
-      where
-        same-pairs : d ≡ replicate (length d) 0
-        same-pairs = zero-pairs ∙ ap (λ (n : ℕ). replicate n 0) (sym (ap length zero-pairs ∙ length-replicate {A = ℕ} directoryLength 0))
-
-        same-times : t ≡ replicate (length t) 0
-        same-times = zero-times ∙ ap (λ (n : ℕ). replicate n 0) (sym (ap length zero-times ∙ length-replicate {A = ℕ} timesLength 0))
+        rw (length-replicate {A = ℕ} most 0)
+        (ap₂ (λ (x y : List ℕ). areas x y y (replicate most 0)) (zero-pairs ∙ ap (λ (n : ℕ). replicate n 0) (sym pairs-long)) (zero-times ∙ ap (λ (n : ℕ). replicate n 0) (sym times-long)))
 
     given : Given task none
     given =
-        given-all task none (h .read)
-        (lengths-suit none (ap length zero-pairs ∙ length-replicate {A = ℕ} directoryLength 0) (ap length zero-times ∙ length-replicate {A = ℕ} timesLength 0)
-        (ap length zero-times ∙ length-replicate {A = ℕ} timesLength 0) (length-replicate {A = ℕ} few 0 ∙ is))
-        (h .suits)
+        given-long task none (h .read) (h .suits) (omega (arith, pairs-long)) (omega (arith, times-long)) (omega (arith, times-long)) (omega (arith, length-replicate {A = ℕ} most 0))
 
   pub opened : Open (task .schedule) d t × Inputs (momentsIn task) d t 0
-  opened = (inputs-open task (given faninsLength refl) refl refl, inputs-none task (given faninsLength refl) (all-none faninsLength refl))
+  opened =
+      let most : ℕ = mostFanins * mostTotalFrames in
+      (inputs-open task (given most (omega arith)) refl refl, inputs-none task (given most (omega arith)) (all-none most (omega arith)))
 
   pub begun : {d′ t′ : List ℕ} {start : Totals} → Begun (momentsIn task) (length (task .schedule .counts)) d′ t′ start → length d′ ≡ length d → length t′ ≡ length t → Counting task 0 d′ t′ start
   begun b p q =
+      let most : ℕ = mostFanins * mostTotalFrames in
       record {
         inertial = t;
-        fanins = replicate faninsLength 0;
-        given = given-alike (given faninsLength refl) (record { directory = p; times = q; inertial = refl; fanins = refl });
-        going = going-none task (given faninsLength refl) (all-none faninsLength refl) b;
+        fanins = replicate most 0;
+        given = given-alike (given most (omega arith)) (record { directory = p; times = q; inertial = refl; fanins = refl });
+        going = going-none task (given most (omega arith)) (all-none most (omega arith)) b;
       }
 
 -- ---- a gate more

@@ -15,14 +15,20 @@ use method::Net;
 use method::Tick;
 use method::Totals;
 
+// A pair for each net of the largest circuit.
+const DIRECTORY_LENGTH: usize = 320;
+
+// A place for each frame that a circuit may have.
+const TIMES_LENGTH: usize = 2048;
+
 // Counts the frames of all nets, until a gate shows that there are too many. It lays 11 kilobytes on the stack, the two areas and
 // the row in which a gate's times are gathered; nobody reads inertial indices and fan-in rows, so none are made.
 pub fn count(file: &[u8], counts: &[u8], changes: &[Tick], inputs: u16, gates: u16) -> Progress
     requires { ⌜ Asked (taskOf (now file) (now counts) (now changes)) × (inputs ≡ inputsOf (now file)) × (gates ≡ gatesOf (now file)) ⌝ }
     ensures { λ r. ⌜ Totalled (taskOf (now (file .entry)) (now (counts .entry)) (now (changes .entry))) r ⌝ }
 {
-    let mut directory = [0u16; planner::DIRECTORY_LENGTH];
-    let mut times: [Tick; planner::TIMES_LENGTH] = [0; planner::TIMES_LENGTH];
+    let mut directory = [0u16; DIRECTORY_LENGTH];
+    let mut times: [Tick; TIMES_LENGTH] = [0; TIMES_LENGTH];
     let start = layout::add_inputs(counts, changes, &mut directory, &mut times);
     count_gates(
         file,

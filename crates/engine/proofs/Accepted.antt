@@ -12,11 +12,10 @@ use Rattle.lists.specs.Outcome.{outcome}
 use Rattle.lists.specs.Areas.{padded}
 use Rattle.lists.proofs.Choices.{and-both}
 use Rattle.lists.proofs.Padding.{pad-length, pad-kept}
-use Rattle.lists.proofs.Ladders.{first-none, accepted-none, unless-none}
+use Rattle.lists.proofs.Ladders.{first-none, unless-none}
 use Rattle.lists.proofs.Leaving.{left-none, accepted-left}
 use Rattle.method.specs.WordLists.{WordLists, Lengths, lengthsOf, wordsSuit}
 use Rattle.circuit.specs.File.{inputsOf, gatesOf}
-use Rattle.editions.specs.Questions as editions
 use Rattle.circuit.specs.Questions as reader
 use Rattle.circuit.specs.Task.{Task, circuitIn, momentsIn, framesIn, allPackedIn}
 use Rattle.method.specs.Changes.{changesSuit}
@@ -46,10 +45,6 @@ module _ (task : Task) (limit : ℕ) (l : Lengths) (a : Areas) (e : firstNo (que
 
   yes-all : Passed task l a
   yes-all = passed task l a (parts .0)
-
-  file-read : reader.readOf (task .file) ≡ accepted (record { inputs = inputsOf (task .file); gates = gatesOf (task .file) })
-  unfolding editions.readOf editions.inputsAndGatesOf
-  file-read = unless-none (firstNo (reader.questions (task .file))) (reader.inputsAndGatesOf (task .file)) (yes-all .reads)
 
   plan-fit : fits (framesIn task) ≡ true
   plan-fit = last-none limit (framesIn task) (parts .1) .0
@@ -101,9 +96,6 @@ module _ (task : Task) (w : WordLists) {a : Areas} (r : LeftByRun task w a) wher
   yes : Passed task (lengthsOf w) (r .entry)
   yes = yes-all task (r .limit) (lengthsOf w) (r .entry) none
 
-  reads : reader.readOf (task .file) ≡ accepted (record { inputs = inputsOf (task .file); gates = gatesOf (task .file) })
-  reads = file-read task (r .limit) (lengthsOf w) (r .entry) none
-
   fits-all : fits (framesIn task) ≡ true
   fits-all = plan-fit task (r .limit) (lengthsOf w) (r .entry) none
 
@@ -119,11 +111,11 @@ module _ (task : Task) (w : WordLists) {a : Areas} (r : LeftByRun task w a) wher
   pub held : Held task w a
   held =
       record {
-        read = reads;
+        read = yes .read;
         timed = yes .timed;
         worded = yes .worded;
         fit = fits-all;
-        plan-is = plan-kept task reads (r .entry .plan) (yes .suits) (yes .timed) fits-all plan-is;
+        plan-is = plan-kept task (yes .read) (r .entry .plan) (yes .suits) (yes .timed) fits-all plan-is;
         values-are = pad-kept (length (r .entry .values)) (allPackedIn task w) values-are room;
       }
 
@@ -131,14 +123,12 @@ module _ (task : Task) (w : WordLists) {a : Areas} (r : LeftByRun task w a) wher
   pub left-suits : areasSuit a ≡ true
   unfolding areasSuit
   left-suits =
-      and-both _ _ (plan-lengths task reads (r .entry .plan) (yes .suits) (yes .timed) fits-all plan-is)
+      and-both _ _ (plan-lengths task (yes .read) (r .entry .plan) (yes .suits) (yes .timed) fits-all plan-is)
       (eq-eqb _ _ (ap length values-are ∙ pad-length (length (r .entry .values)) (allPackedIn task w) room ∙ yes .values))
 
 -- what such areas say of the questions before 13: in areas that suit, the file and the lists pass them
 pub held-passed : (task : Task) (w : WordLists) {a : Areas} → Held task w a → (entry : Areas) → areasSuit entry ≡ true → firstNo (firstQuestions task (lengthsOf w) entry) ≡ 0
-unfolding editions.readOf
-held-passed task w b entry s =
-    passed-again task (lengthsOf w) entry (accepted-none (firstNo (reader.questions (task .file))) (reader.inputsAndGatesOf (task .file)) (b .read) .0) s (b .worded) (b .timed)
+held-passed task w b entry s = passed-again task (lengthsOf w) entry (b .read) s (b .worded) (b .timed)
 
 -- there are as many after words as changes, so words that agree do so at each change
 pub agree-all : (task : Task) (w w′ : WordLists) (L : ℕ) {a : Areas} → Held task w a → AgreeIn L (circuitIn task .inputs) (length (task .schedule .times)) w w′

@@ -34,7 +34,7 @@ use Rattle.method.specs.WordLists.{WordLists, lengthsOf, wordsSuit}
 use Rattle.circuit.specs.File.{inputsOf}
 use Rattle.circuit.specs.Task.{Task, circuitIn, momentsIn, netsIn, framesIn}
 use Rattle.circuit.proofs.Bounded.{time-small}
-use Rattle.method.specs.Limits.{mostNetFrames, mostTotalFrames}
+use Rattle.method.specs.Limits.{mostNetFrames}
 use Rattle.method.specs.Areas as areas
 use Rattle.method.specs.Layout.{allTimes, laid, firstFrame, frameCount}
 use Rattle.method.proofs.Fitting.{fits-total, fits-net}
@@ -45,7 +45,7 @@ use Rattle.engine.specs.Questions.{valuesLength}
 use Rattle.engine.specs.Run.{runLeft, runOf}
 use Rattle.looks.specs.Sight.{sight, sightAt}
 use Rattle.looks.specs.Look.{lookQuestions, levelOf, levelPart, countOf}
-use Rattle.engine.specs.After.{LeftByRun, SightHolds, NetParts, After, Alike, AfterRun, timesOf, valuesOf, sightIn, levelIn, frameIn, countIn, lastTime}
+use Rattle.engine.specs.After.{SightHolds, NetParts, After, Alike, AfterRun, timesOf, valuesOf, sightIn, levelIn, frameIn, countIn, lastTime}
 use Rattle.looks.proofs.Seeing.{all-yes}
 use Rattle.looks.proofs.Holding.{own-sight, holds}
 use Rattle.engine.proofs.Answering.{plan-first}

@@ -5,12 +5,11 @@ use mathlib.Core.Path.{_≡_, sym, ap, _∙_}
 use mathlib.Core.Bool.{Bool, true, false, not}
 use mathlib.Core.List.{List, [], _∷_}
 use native.Mathlib.Omega.{arith}
-use lib.Dec.{eqb}
 use lib.ListN.{length}
 use borrow.Author.Tests.{eqb-true, eq-eqb, ne-eqb, not-true, not-false}
-use Rattle.lists.specs.Ladder.{_orElse_, firstNo, accepted, refused, unless}
+use Rattle.lists.specs.Ladder.{Question, _orElse_, firstNo, accepted, refused, unless}
 use Rattle.lists.proofs.Choices.{and-left, and-right}
-use Rattle.lists.proofs.Ladders.{first, first-here, first-none, firstNo-append, asked, ask-yes, ask-no, all-asked, accepted-none, refused-some, unless-none, unless-some}
+use Rattle.lists.proofs.Ladders.{asked, ask-yes, ask-no, all-asked, accepted-none, refused-some, unless-none, unless-some}
 use Rattle.method.specs.Changes.{Schedule, changesSuit}
 use Rattle.method.specs.WordLists.{Lengths, wordsSuit}
 use Rattle.circuit.specs.File.{inputsOf, gatesOf}
@@ -19,12 +18,11 @@ use Rattle.editions.specs.declared.Reading.the-variants as R
 use Rattle.editions.specs.Questions as editions
 use Rattle.circuit.specs.Questions as reader
 use Rattle.circuit.specs.Task.{Task, framesIn}
-use Rattle.circuit.proofs.Present.{questions-numbered}
 use Rattle.method.specs.Areas as planner
 use Rattle.planner.specs.Questions as plan
 use Rattle.engine.specs.Areas.{Areas, areas}
 use Rattle.engine.specs.Questions.{valuesLength, areasSuit, ownQuestions, firstQuestions, questionsOf}
-use Rattle.circuit.proofs.Parts.{inputs-are, gates-are, reading-accepted}
+use Rattle.circuit.proofs.Ahead.{own-none, file-read, own-decide, read-no, read-yes}
 use Rattle.method.proofs.Fitting.{fits-total}
 use Rattle.planner.proofs.Calling.{given-all}
 use Rattle.simulation.specs.Simulated.{Ready}
@@ -63,39 +61,32 @@ module _ (inputs : ℕ) (h : Schedule) (l : Lengths) (d t i f v : List ℕ) {ok 
 -- ---- questions 1 to 11 and 20, as `questions` answers them
 
 module _ (task : Task) (l : Lengths) (a : Areas) where
-  joined : firstNo (firstQuestions task l a) ≡ first (firstNo (reader.questions (task .file))) (firstNo (ownQuestions (inputsOf (task .file)) (task .schedule) l a))
-  unfolding firstQuestions
-  joined = firstNo-append (reader.questions (task .file)) (ownQuestions (inputsOf (task .file)) (task .schedule) l a) (questions-numbered (task .file))
+  abbrev own : List Question
+  own = ownQuestions (inputsOf (task .file)) (task .schedule) l a
 
   refusal : {n : ℕ} → n ≡ firstNo (firstQuestions task l a) → (n ≡ 0 → ⊥) → reader.onPaper (R.Refused n) ≡ questionsOf task l a
   unfolding questionsOf reader.onPaper
   refusal {n} e some = sym (rw (← e) (unless-some n (reader.inputsAndGatesOf (task .file)) some))
 
   module _ {r : Reading} (f : reader.onPaper r ≡ reader.readOf (task .file)) where
-    pub read-no : {n : ℕ} → r ≡ R.Refused n → reader.onPaper (R.Refused n) ≡ questionsOf task l a
-    unfolding reader.onPaper editions.readOf
-    read-no {n} e =
-        let g : unless (firstNo (reader.questions (task .file))) (reader.inputsAndGatesOf (task .file)) ≡ refused n = sym f ∙ rw e in
-        let q = refused-some (firstNo (reader.questions (task .file))) (reader.inputsAndGatesOf (task .file)) g in
-        let some : n ≡ 0 → ⊥ = λ z. omega (arith, q .1) in
-        refusal (sym (joined ∙ rw (q .0) (first-here n _ some))) some
+    pub reader-no : {n : ℕ} → r ≡ R.Refused n → reader.onPaper (R.Refused n) ≡ questionsOf task l a
+    unfolding firstQuestions
+    reader-no e = let q = read-no (task .file) own f e in refusal (sym (q .0)) (λ z. omega (arith, q .1))
 
     module _ {inputs gates : ℕ} (e : r ≡ R.Accepted inputs gates) {n : ℕ} (is : n ≡ firstNo (ownQuestions inputs (task .schedule) l a)) where
-      answered : reader.readOf (task .file) ≡ accepted (record { inputs = inputs; gates = gates })
-      answered = reading-accepted (task .file) f e
+      answered : (reader.readOf (task .file) ≡ accepted (record { inputs = inputsOf (task .file); gates = gatesOf (task .file) })) × (inputs ≡ inputsOf (task .file)) × (gates ≡ gatesOf (task .file))
+      answered = read-yes (task .file) own f e
 
       own-is : n ≡ firstNo (firstQuestions task l a)
-      unfolding editions.readOf
-      own-is =
-          let q : firstNo (reader.questions (task .file)) ≡ 0 = accepted-none (firstNo (reader.questions (task .file))) (reader.inputsAndGatesOf (task .file)) answered .0 in
-          is ∙ rw (inputs-are (task .file) answered) (sym (joined ∙ rw q))
+      unfolding firstQuestions
+      own-is = is ∙ rw (answered .1) (sym (own-decide (task .file) own (answered .0)))
 
       pub own-no : (n ≡ 0 → ⊥) → reader.onPaper (R.Refused n) ≡ questionsOf task l a
       own-no some = refusal own-is some
 
-      pub own-none : n ≡ 0 → reader.onPaper (R.Accepted inputs gates) ≡ questionsOf task l a
+      pub own-yes : n ≡ 0 → reader.onPaper (R.Accepted inputs gates) ≡ questionsOf task l a
       unfolding questionsOf reader.onPaper editions.inputsAndGatesOf
-      own-none z = sym (unless-none _ (reader.inputsAndGatesOf (task .file)) (sym own-is ∙ z) ∙ rw (← inputs-are (task .file) answered, ← gates-are (task .file) answered))
+      own-yes z = sym (unless-none _ (reader.inputsAndGatesOf (task .file)) (sym own-is ∙ z) ∙ rw (← answered .1, ← answered .2))
 
   -- what their answer says
   module _ {r : Reading} (f : reader.onPaper r ≡ questionsOf task l a) where
@@ -125,7 +116,7 @@ module _ (task : Task) (l : Lengths) (a : Areas) where
 -- ---- all answered yes
 
 pub record Passed (task : Task) (l : Lengths) (a : Areas) : Type 0 where
-  pub reads : firstNo (reader.questions (task .file)) ≡ 0
+  pub read : reader.readOf (task .file) ≡ accepted (record { inputs = inputsOf (task .file); gates = gatesOf (task .file) })
   pub suits : plan.areasSuit (a .plan) ≡ true
   pub values : length (a .values) ≡ valuesLength
   pub worded : wordsSuit (inputsOf (task .file)) (length (task .schedule .times)) l ≡ true
@@ -136,24 +127,23 @@ unfolding areasSuit
 areas-pass a e = (and-left (plan.areasSuit (a .plan)) _ e, eqb-true _ _ (and-right (plan.areasSuit (a .plan)) _ e))
 
 pub passed : (task : Task) (l : Lengths) (a : Areas) → firstNo (firstQuestions task l a) ≡ 0 → Passed task l a
+unfolding firstQuestions
 passed task l a h =
-    let q = first-none (firstNo (reader.questions (task .file))) (firstNo (ownQuestions (inputsOf (task .file)) (task .schedule) l a)) (sym (joined task l a) ∙ h) in
-    let s = asked (areasSuit a) 10 _ (λ z. omega arith) (q .1) in
+    let s = asked (areasSuit a) 10 _ (λ z. omega arith) (own-none (task .file) (own task l a) h) in
     let w = asked (wordsSuit (inputsOf (task .file)) (length (task .schedule .times)) l) 11 _ (λ z. omega arith) (s .1) in
     let t = asked (changesSuit (inputsOf (task .file)) (task .schedule)) 20 [] (λ z. omega arith) (w .1) in
     let x = areas-pass a (s .0) in
-    record { reads = q .0; suits = x .0; values = x .1; worded = w .0; timed = t .0 }
+    record { read = file-read (task .file) (own task l a) h; suits = x .0; values = x .1; worded = w .0; timed = t .0 }
 
 -- so a run may follow
 pub asked-yes : (task : Task) (l : Lengths) (a : Areas) {r : Reading} → reader.onPaper r ≡ questionsOf task l a → {inputs gates : ℕ} → r ≡ R.Accepted inputs gates
     → Ready task l (a .plan) (a .values) × (inputs ≡ inputsOf (task .file)) × (gates ≡ gatesOf (task .file))
-unfolding editions.readOf editions.inputsAndGatesOf
 asked-yes task l a f e =
     let y = passed task l a (asked-none task l a f e) in
-    let read = unless-none _ (reader.inputsAndGatesOf (task .file)) (y .reads) in
-    (record { given = given-all task (a .plan) read (y .suits) (y .timed); worded = y .worded; words = λ fit. omega (arith, fits-total (framesIn task) fit, y .values) }, asked-inputs task l a f e, asked-gates task l a f e)
+    (record { given = given-all task (a .plan) (y .read) (y .suits) (y .timed); worded = y .worded; words = λ fit. omega (arith, fits-total (framesIn task) fit, y .values) }, asked-inputs task l a f e, asked-gates task l a f e)
 
 -- what passed once, with whatever areas, passes in areas that suit
-pub passed-again : (task : Task) (l : Lengths) (a : Areas) → firstNo (reader.questions (task .file)) ≡ 0 → areasSuit a ≡ true → wordsSuit (inputsOf (task .file)) (length (task .schedule .times)) l ≡ true
+pub passed-again : (task : Task) (l : Lengths) (a : Areas) → reader.readOf (task .file) ≡ accepted (record { inputs = inputsOf (task .file); gates = gatesOf (task .file) }) → areasSuit a ≡ true → wordsSuit (inputsOf (task .file)) (length (task .schedule .times)) l ≡ true
     → changesSuit (inputsOf (task .file)) (task .schedule) ≡ true → firstNo (firstQuestions task l a) ≡ 0
-passed-again task l a e s w t = joined task l a ∙ rw e (ask-yes (areasSuit a) 10 _ s ∙ ask-yes (wordsSuit (inputsOf (task .file)) (length (task .schedule .times)) l) 11 _ w ∙ ask-yes (changesSuit (inputsOf (task .file)) (task .schedule)) 20 [] t ∙ all-asked)
+unfolding firstQuestions
+passed-again task l a e s w t = own-decide (task .file) (own task l a) e ∙ (ask-yes (areasSuit a) 10 _ s ∙ ask-yes (wordsSuit (inputsOf (task .file)) (length (task .schedule .times)) l) 11 _ w ∙ ask-yes (changesSuit (inputsOf (task .file)) (task .schedule)) 20 [] t ∙ all-asked)

@@ -12,8 +12,6 @@ use Rattle.lists.specs.Outcome.{outcome}
 use Rattle.lists.proofs.Ladders.{unless-none, unless-some}
 use Rattle.lists.proofs.Leaving.{left-none, accepted-left}
 use Rattle.method.specs.WordLists.{WordLists, Lengths, lengthsOf}
-use Rattle.editions.specs.Questions as editions
-use Rattle.circuit.specs.Questions.{readOf, inputsAndGatesOf}
 use Rattle.circuit.specs.Task.{Task, netsIn}
 use Rattle.circuit.proofs.Parts.{circuit-inputs, gates-length, few}
 use Rattle.engine.specs.Areas.{Areas, allCleared}
@@ -41,10 +39,8 @@ use Rattle.marking.proofs.Searching.{searched-is}
 -- where those before it are answered yes, question 12 is whether there are as many
 needs-asked : (task : Task) (l : Lengths) (a : Areas) → firstNo (firstQuestions task l a) ≡ 0 → (list : List Expectation)
     → listSuits (netsIn task) list ≡ leb (netsNeeded list) (netsIn task)
-unfolding editions.readOf editions.inputsAndGatesOf
 needs-asked task l a e list =
-    let read = unless-none _ (inputsAndGatesOf (task .file)) (passed task l a e .reads) in
-    let most = few (task .file) read in
+    let most = few (task .file) (passed task l a e .read) in
     list-suits-by (netsIn task) (omega (arith, circuit-inputs (task .file), gates-length (task .file), most)) list
 
 -- and where one of them is not, it does not matter

@@ -11,10 +11,10 @@ pub use limiting::Planning;
 use limiting::fill_within;
 use method::Tick;
 
-pub const DIRECTORY_LENGTH: usize = 320;
+const DIRECTORY_LENGTH: usize = 320;
 
 // The length of the times, and of the inertial indices.
-pub const TIMES_LENGTH: usize = 2048;
+const TIMES_LENGTH: usize = 2048;
 
 const FANINS_LENGTH: usize = 16384;
 

@@ -8,10 +8,10 @@ use native.Mathlib.Omega.{arith}
 use lib.Dec.{eqb}
 use lib.ListN.{length}
 use borrow.Author.Tests.{ne-eqb}
-use Rattle.lists.specs.Ladder.{firstNo, Answer, accepted, unless}
+use Rattle.lists.specs.Ladder.{firstNo, Answer, accepted}
 use Rattle.lists.specs.Outcome.{Outcome, outcome, leftUnless}
 use Rattle.lists.specs.Areas.{cleared, padded}
-use Rattle.lists.proofs.Ladders.{accepted-none, unless-none, unless-some}
+use Rattle.lists.proofs.Ladders.{accepted-none, unless-some}
 use Rattle.lists.proofs.Leaving.{left-none}
 use Rattle.lists.proofs.Padding.{pad-length, pad-kept}
 use Rattle.method.specs.declared.Totals.{Totals}
@@ -24,9 +24,7 @@ use Rattle.method.proofs.Fitting.{room-first}
 use Rattle.method.proofs.Laying.{laid-lengths, laid-kept}
 use Rattle.method.proofs.Parts.{nets-count, all-words}
 use Rattle.circuit.specs.Task.{Task, circuitIn, momentsIn, framesIn, allPackedIn}
-use Rattle.circuit.specs.File.{gatesOf}
 use Rattle.circuit.proofs.Parts.{gates-length}
-use Rattle.layout.specs.Steps.{Given}
 use Rattle.layout.proofs.Filling.{even-rows}
 use Rattle.limiting.specs.declared.Planning.{Planning}
 use Rattle.limiting.specs.declared.Planning.the-variants as Q

@@ -13,7 +13,7 @@ use Rattle.lists.proofs.Choices.{and-left, and-right}
 use Rattle.lists.proofs.Ladders.{isNumber, numbered, each-append, first, first-here, first-none, firstNo-append, asked, ask-yes, ask-no, all-asked, accepted-none, refused-some, unless-none, unless-some}
 use Rattle.method.specs.declared.Totals.{Totals}
 use Rattle.method.specs.Changes.{changesSuit}
-use Rattle.method.specs.Sums.{fits, limited, totalsOf}
+use Rattle.method.specs.Sums.{fits, totalsOf}
 use Rattle.method.specs.WordLists.{Lengths, wordsSuit}
 use Rattle.editions.specs.declared.Reading.{Reading}
 use Rattle.editions.specs.declared.Reading.the-variants as R
@@ -24,7 +24,6 @@ use Rattle.circuit.specs.Task.{Task, netsIn, framesIn}
 use Rattle.circuit.proofs.Present.{questions-numbered}
 use Rattle.circuit.proofs.Parts.{circuit-inputs, gates-length}
 use Rattle.circuit.proofs.Ahead.{own-none, file-read, own-decide, read-no, read-yes}
-use Rattle.counting.specs.Steps as counting
 use Rattle.limiting.specs.declared.Planning.{Planning}
 use Rattle.limiting.specs.declared.Planning.the-variants as Q
 use Rattle.limiting.specs.Questions.{lastQuestions}

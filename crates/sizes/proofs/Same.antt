@@ -34,7 +34,7 @@ use Rattle.engine.specs.Run.{filled, runOf}
 use Rattle.engine.specs.After.{LeftByRun}
 use Rattle.engine.proofs.Accepted.{left-totals, left-filled}
 use Rattle.sizes.specs.Sizes.{sizeQuestions, sizeOf}
-use Rattle.sizes.specs.Fitted.{areasFit, justFits, ownQuestions, fittedQuestions, fittedOf}
+use Rattle.sizes.specs.Fitted.{areasFit, justFits, fittedQuestions, fittedOf}
 use Rattle.sizes.specs.Same.{usedParts, SameSizes}
 use Rattle.sizes.proofs.Asking.{Fits, fits-each, passed, passes}
 use Rattle.sizes.proofs.Answering.{fitted-accepts}

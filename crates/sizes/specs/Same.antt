@@ -2,7 +2,6 @@
 use Prim.Native.Nat.{ℕ, _*_}
 use mathlib.Core.Path.{_≡_}
 use mathlib.Core.Bool.{true}
-use mathlib.Core.List.{List}
 use lib.ListN.{length, take}
 use Rattle.lists.specs.Ladder.{accepted}
 use Rattle.lists.specs.Outcome.{outcome}

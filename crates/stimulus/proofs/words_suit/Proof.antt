@@ -1,7 +1,6 @@
 -- `words_suit` meets its contract: the two lengths are asked in turn.
 -- Assumes nothing.
 use Rattle.stimulus.proofs.Asked.{not-before, after-decides}
-use borrow.Author.Needs.{needs}
 use Rattle.stimulus.proofs.words_suit.Statement.{statement}
 use Rattle.stimulus.proofs.words_suit.Tie as tie
 

@@ -1,6 +1,5 @@
 -- `add_gate` meets its contract: its times are those of the next net; they are stored unless they are too many.
 -- Assumes nothing.
-use native.Mathlib.Omega.{arith}
 use denote.Ref.{now}
 use Rattle.editions.specs.declared.GateRecord.{GateRecord}
 use Rattle.circuit.specs.Task.{taskOf}
