@@ -1,6 +1,7 @@
 -- The conditions of purchase, sentence by sentence. The calls' contracts say that what `read`, `plan`, `run`, `size`,
 -- `run_fitted`, `level`, `count`, `mark`, `newer` and `older` answer and leave is `readOf`, `planOf`, `runOf`, `sizeOf`,
--- `fittedOf`, `levelOf`, `countOf`, `markOf`, `newerOf` and `olderOf`; here stands what holds of these. `demands` in `proofs/Demands` proves it.
+-- `fittedOf`, `levelOf`, `countOf`, `markOf`, `newerOf` and `olderOf`; here stands what holds of these. `demands` in
+-- `proofs/Demands` proves it.
 use Prim.Native.Nat.{ℕ, suc, _<_, _≤_}
 use mathlib.Core.Path.{_≡_}
 use mathlib.Core.Logic.{_≢_}
@@ -36,8 +37,7 @@ use Rattle.looks.specs.Sight.{sight}
 use Rattle.looks.specs.Look.{lookQuestions, levelOf, countOf}
 use Rattle.engine.specs.After.{LeftByRun, timesOf, levelIn, countIn, NetParts, lastTime}
 use Rattle.sizes.specs.Sizes.{sizeQuestions, sizeOf}
-use Rattle.sizes.specs.Fitted.{justFits, fittedQuestions, fittedOf}
-use Rattle.sizes.specs.Same.{LeftByFitted}
+use Rattle.sizes.specs.Fitted.{justFits, fittedQuestions, fittedOf, LeftByFitted}
 use Rattle.expectations.specs.declared.Expectation.{Expectation}
 use Rattle.expectations.specs.Suits.{listSuits}
 use Rattle.marking.specs.Questions as marking
@@ -123,8 +123,8 @@ pub record Demand2Lengths : Type 0 where
   pub mark : (task : Task) (w : WordLists) (list : List Expectation) (v : Verdict) (left : Areas) → Marked task w list v left → engine.areasSuit left ≡ true
 
 -- Document 01 adds: "No pattern bit enters a number, a plan area or these totals." Word lists of equal lengths give the same
--- answer of Run and of the fitted Run; of Mark the same refusal, or two acceptances; and the same plan areas. Values of equal lengths give of Level
--- and of Count the same refusal, or two acceptances
+-- answer of Run and of the fitted Run; of Mark the same refusal, or two acceptances; and the same plan areas. Values of equal
+-- lengths give of Level and of Count the same refusal, or two acceptances
 pub record Demand2Patterns : Type 0 where
   pub run : (task : Task) (limit : ℕ) (w w′ : WordLists) (a : Areas) → lengthsOf w ≡ lengthsOf w′
       → (runOf task limit w a .answer ≡ runOf task limit w′ a .answer) × (runOf task limit w a .left .plan ≡ runOf task limit w′ a .left .plan)

@@ -10,7 +10,7 @@ use Rattle.method.specs.WordLists.{WordLists}
 use Rattle.circuit.specs.Task.{Task, framesIn}
 use Rattle.engine.specs.Areas.{Areas}
 use Rattle.engine.specs.After as engine
-use Rattle.sizes.specs.Same as sizes
+use Rattle.sizes.specs.Fitted as sizes
 use Rattle.expectations.specs.declared.Expectation.{Expectation}
 use Rattle.expectations.specs.Verdict.{Verdict}
 use Rattle.marking.specs.Mark.{markOf}

@@ -1,5 +1,5 @@
-// The frames of one gate, written behind those of the nets before it. An inner crate: its function asks its caller for what
-// it needs.
+// The frames of one gate, written behind those of the nets before it. An inner crate: its functions ask their caller for what
+// they need.
 ghost use mathlib.Core.Path.{_≡_};
 ghost use mathlib.Core.List.{flatMap};
 ghost use lib.ListN.{length};

@@ -33,8 +33,7 @@ use Rattle.simulation.specs.Simulated.{Ready, Simulated}
 use Rattle.engine.specs.Areas.{Areas}
 use Rattle.engine.specs.Run.{filled}
 use Rattle.engine.proofs.Accepted.{Held, filled-plan, filled-values}
-use Rattle.sizes.specs.Fitted.{areasFit, justFits, fittedQuestions, fittedOf}
-use Rattle.sizes.specs.Same.{LeftByFitted}
+use Rattle.sizes.specs.Fitted.{areasFit, justFits, fittedQuestions, fittedOf, LeftByFitted}
 use Rattle.sizes.proofs.Asking.{Fits, fits-each, Passed, passed}
 
 -- ---- there is room

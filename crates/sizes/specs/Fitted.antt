@@ -1,10 +1,11 @@
 -- What the fitted Run answers, and what it leaves in the areas: a Run that takes areas of just the sizes that the circuit needs.
 use Prim.Native.Nat.{ℕ, _*_}
+use mathlib.Core.Path.{_≡_}
 use mathlib.Core.Bool.{Bool, _&&_}
 use mathlib.Core.List.{List, [], _∷_, _++_}
 use lib.ListN.{length}
 use lib.Dec.{eqb}
-use Rattle.lists.specs.Ladder.{Question, _orElse_, firstNo, unless}
+use Rattle.lists.specs.Ladder.{Question, _orElse_, firstNo, accepted, unless}
 use Rattle.lists.specs.Outcome.{Outcome, outcome, leftUnless}
 use Rattle.method.specs.declared.Totals.{Totals}
 use Rattle.method.specs.Changes.{changesSuit}
@@ -46,3 +47,11 @@ unfoldable pub fittedOf : Task → ℕ → WordLists → Areas → Outcome Total
 fittedOf task limit w a =
     let n : ℕ = firstNo (fittedQuestions task limit (lengthsOf w) a) in
     outcome (unless n (totalsOf (framesIn task))) (leftUnless n (filled task w a) a)
+
+-- `left` is what an accepted fitted Run of the task with these words leaves: under some limit it answered totals, and its areas
+-- held something
+pub record LeftByFitted (task : Task) (w : WordLists) (left : Areas) : Type 0 where
+  pub limit : ℕ
+  pub totals : Totals
+  pub entry : Areas
+  pub ran : outcome (accepted totals) left ≡ fittedOf task limit w entry

@@ -25,14 +25,6 @@ usedParts nets t a =
     areas (take (2 * nets) (a .plan .directory)) (take (t .frames) (a .plan .times)) (take (t .frames) (a .plan .inertial))
     (take (t .fanins) (a .plan .fanins)) (take (t .frames) (a .values))
 
--- `left` is what an accepted fitted Run of the task with these words leaves: under some limit it answered totals, and its areas
--- held something
-pub record LeftByFitted (task : Task) (w : WordLists) (left : Areas) : Type 0 where
-  pub limit : ℕ
-  pub totals : Totals
-  pub entry : Areas
-  pub ran : outcome (accepted totals) left ≡ fittedOf task limit w entry
-
 pub record SameSizes : Type 0 where
   -- Size's answer is Plan's wherever Plan's areas pass question 10, refusals included
   pub size-is-plan : (task : Task) (limit : ℕ) (a : planner.Areas) → areasSuit a ≡ true → sizeOf task limit ≡ planOf task limit a .answer
