@@ -15,17 +15,16 @@ use Rattle.method.specs.Frames.{faninRow}
 use Rattle.method.specs.Areas.{Areas, areas, allCleared}
 use Rattle.method.specs.Sums.{fits}
 use Rattle.method.specs.First.{Inputs}
-use Rattle.method.proofs.Prefix.{frames-all}
 use Rattle.editions.specs.declared.GateRecord.{GateRecord}
 use Rattle.circuit.specs.Limits.{mostInputs, mostGates}
 use Rattle.circuit.specs.File.{gatesOf}
-use Rattle.circuit.specs.Task.{Task, circuitIn, momentsIn, framesIn}
-use Rattle.circuit.proofs.Parts.{gates-length}
+use Rattle.circuit.specs.Task.{Task, momentsIn}
 use Rattle.gathering.specs.Steps.{spans}
-use Rattle.framing.specs.Steps.{Slot, Timed}
+use Rattle.framing.specs.Steps.{Timed}
 use Rattle.layout.specs.declared.Progress.the-variants as P
 use Rattle.layout.specs.Steps.{framesOf, Given, Open, Begun}
 use Rattle.layout.proofs.Accepted.{given-long}
+use Rattle.layout.proofs.Filling.{nets-all}
 use Rattle.layout.proofs.Starting.{inputs-open, inputs-none, going-none}
 use Rattle.layout.proofs.Stepping.{Stays, given-alike, never}
 use Rattle.counting.specs.Steps.{Asked, Counting, CountedTo, Totalled}
@@ -71,10 +70,6 @@ module _ (task : Task) (h : Asked task) {d t : List ℕ} (zero-pairs : d ≡ rep
 
 -- ---- a gate more
 
--- there is room for its pair and its times
-pub slot : {task : Task} {net j : ℕ} {a : Areas} {t : Totals} {g : GateRecord} {own : List ℕ} → Stays task net j a t g own → Slot (a .directory) (a .times) net t (length own) (g .entries)
-slot s = record { directory = s .place .directory; times = s .place .times; few-frames = s .place .few-frames; few-fanins = s .place .few-fanins }
-
 -- what is not made is taken as if it were
 module _ {task : Task} {net j : ℕ} {d t : List ℕ} {totals : Totals} (c : Counting task j d t totals) {g : GateRecord} {own : List ℕ} (s : Stays task net j (areas d t (c .inertial) (c .fanins)) totals g own)
     {d′ t′ : List ℕ} {totals′ : Totals} (st : Timed d d′ t t′ net totals totals′ (g .entries) own) where
@@ -93,16 +88,7 @@ module _ {task : Task} {net j : ℕ} {d t : List ℕ} {totals : Totals} (c : Cou
               fanins = length-sets (c .fanins) (totals .fanins) rows;
             });
         going =
-            s .stepped
-            (record {
-              directory-is = st .directory-is;
-              times-are = st .times-are;
-              inertial-is = refl;
-              fanins-are = refl;
-              frames-sum = st .frames-sum;
-              fanins-sum = st .fanins-sum;
-              last-is = st .last-is;
-            });
+            s .stepped (record { timed = st; inertial-is = refl; fanins-are = refl });
       }
 
 -- ---- what is reached
@@ -115,17 +101,14 @@ counted-many h = record { planned = λ u e. absurd (never (sym e)); stopped = λ
 
 -- all gates were tried
 module _ (task : Task) {gates : ℕ} (all : gates ≡ gatesOf (task .file)) where
-  nets-all : framesOf task gates ≡ framesIn task
-  nets-all = frames-all (circuitIn task) (momentsIn task) gates (all ∙ sym (gates-length (task .file)))
-
   pub totalled : {d t : List ℕ} {totals : Totals} → Counting task gates d t totals → Totalled task (P.Planned totals)
   totalled {d} {t} {totals} c =
       record {
-        fit = λ u e. rw nets-all at (c .going .fit);
-        totals = λ u e. (let q : u ≡ totals = cc in q ∙ (rw nets-all at (c .going .totals)));
+        fit = λ u e. rw (nets-all task all) at (c .going .fit);
+        totals = λ u e. (let q : u ≡ totals = cc in q ∙ (rw (nets-all task all) at (c .going .totals)));
         stopped = λ e. absurd (never e);
       }
 
   pub totalled-none : fits (framesOf task gates) ≡ false → Totalled task P.TooMany
   totalled-none h =
-      record { fit = λ u e. absurd (never (sym e)); totals = λ u e. absurd (never (sym e)); stopped = λ e. rw nets-all at h }
+      record { fit = λ u e. absurd (never (sym e)); totals = λ u e. absurd (never (sym e)); stopped = λ e. rw (nets-all task all) at h }

@@ -1,4 +1,4 @@
--- What an accepted Run leaves an accepted Mark leaves too, so levels hold after either. Begin and end are read off the times alone.
+-- Levels hold after every accepted run, whichever call it was. Begin and end are read off the times alone.
 -- Assumes nothing.
 use Prim.Native.Nat.{ℕ, suc}
 use mathlib.Core.Path.{_≡_, sym, ap, _∙_}

@@ -1,7 +1,7 @@
 -- The areas as a whole, filled once all gates were tried.
 -- Assumes nothing.
 use Prim.Native.Nat.{ℕ}
-use mathlib.Core.Path.{_≡_, sym, _∙_}
+use mathlib.Core.Path.{_≡_, refl, sym, _∙_}
 use mathlib.Core.Bool.{true}
 use mathlib.Core.List.{List}
 use native.Mathlib.Omega.{arith}
@@ -32,17 +32,18 @@ pub cleared-alike : {a a′ : Areas} → Alike a a′ → allCleared a′ ≡ al
 unfolding allCleared
 cleared-alike l = rw (l .directory, l .times, l .inertial, l .fanins)
 
-module _ (task : Task) {gates : ℕ} (all : gates ≡ gatesOf (task .file)) {a′ : Areas} {r : Progress} (h : Reached task gates a′ r) where
-  nets-all : framesOf task gates ≡ framesIn task
-  nets-all = frames-all (circuitIn task) (momentsIn task) gates (all ∙ sym (gates-length (task .file)))
+-- with all gates there are all nets
+pub nets-all : (task : Task) {gates : ℕ} → gates ≡ gatesOf (task .file) → framesOf task gates ≡ framesIn task
+nets-all task {gates} all = frames-all (circuitIn task) (momentsIn task) gates (all ∙ sym (gates-length (task .file)))
 
+module _ (task : Task) {gates : ℕ} (all : gates ≡ gatesOf (task .file)) {a′ : Areas} {r : Progress} (h : Reached task gates a′ r) where
   pub filled-now : {a : Areas} (t : Totals) → r ≡ P.Planned t → Alike a a′ → Filled task a a′ (P.Planned t)
   filled-now t e l =
       let o = h .planned t e in
       record {
-        fit = λ u q. rw nets-all at (o .fit);
-        totals = λ u q. (let s : u ≡ t = cc in s ∙ (rw nets-all at (o .totals)));
-        filled = λ u q. (rw nets-all at (o .is)) ∙ laid-alike (framesIn task) l;
+        fit = λ u q. rw (nets-all task all) at (o .fit);
+        totals = λ u q. (let s : u ≡ t = cc in s ∙ (rw (nets-all task all) at (o .totals)));
+        filled = λ u q. (rw (nets-all task all) at (o .is)) ∙ laid-alike (framesIn task) l;
         stopped = λ q. absurd (never q);
         emptied = λ q. absurd (never q);
       }
@@ -53,19 +54,16 @@ module _ (task : Task) {gates : ℕ} (all : gates ≡ gatesOf (task .file)) {a�
         fit = λ u q. absurd (never (sym q));
         totals = λ u q. absurd (never (sym q));
         filled = λ u q. absurd (never (sym q));
-        stopped = λ q. rw nets-all at (h .stopped e);
+        stopped = λ q. rw (nets-all task all) at (h .stopped e);
         emptied = λ q. c ∙ cleared-alike l;
       }
 
 -- ---- room for all of them
 
 module _ (task : Task) where
-  every-net : framesOf task (gatesOf (task .file)) ≡ framesIn task
-  every-net = frames-all (circuitIn task) (momentsIn task) (gatesOf (task .file)) (sym (gates-length (task .file)))
-
   pub given-room : {a : Areas} → Given task a → fits (framesIn task) ≡ true → Room (framesIn task) a
-  given-room given fit = rw every-net at (given .room (gatesOf (task .file)) (omega arith) (rw every-net fit))
+  given-room given fit = rw (nets-all task refl) at (given .room (gatesOf (task .file)) (omega arith) (rw (nets-all task refl) fit))
 
   -- as many inertial indices as times
   pub even-rows : readOf (task .file) ≡ accepted (record { inputs = inputsOf (task .file); gates = gatesOf (task .file) }) → length (allInertial (framesIn task)) ≡ length (allTimes (framesIn task))
-  even-rows read = rw every-net at (nets-sized task read (gatesOf (task .file)) (omega arith) .even)
+  even-rows read = rw (nets-all task refl) at (nets-sized task read (gatesOf (task .file)) (omega arith) .even)

@@ -2,14 +2,12 @@
 -- Assumes nothing.
 use Prim.Native.Nat.{ℕ, zero, suc, _+_, _-_, _*_, _≤_, _<_, max}
 use mathlib.Core.Path.{_≡_, refl, sym, ap, ap₂, _∙_}
-use mathlib.Core.Logic.{inl, inr}
 use mathlib.Core.Bool.{true, false}
 use mathlib.Core.List.{List, [], _∷_, _++_, map, flatMap}
 use native.Mathlib.Omega.{arith}
 use lib.ListN.{length, getD, take, drop, length-append}
 use lib.Seq.{sets, getD-append-seam}
 use Rattle.lists.specs.Tables.{tabulateFrom}
-use Rattle.lists.proofs.Choices.{order}
 use Rattle.method.specs.Kinds.{mostFanins}
 use Rattle.method.specs.Circuit.{Gate, gateAt}
 use Rattle.method.specs.Times.{gateTimes}
@@ -37,7 +35,7 @@ use Rattle.gathering.proofs.Inserting.{front}
 use Rattle.gathering.proofs.Spans.{own-some}
 use Rattle.method.proofs.Laying.{Spot, spot-at, low-area, times-snoc, total-more, fanins-more, Behind, laid-snoc}
 use Rattle.method.proofs.Prefix.{faninTimes, nextFrames, next-times, next-inertial, next-rows, next-even, next-count}
-use Rattle.method.proofs.Fitting.{fits-total, fits-net, fits-more, fits-long, fits-many}
+use Rattle.method.proofs.Fitting.{fits-total, fits-net, fits-more, fits-over}
 use Rattle.layout.proofs.Accepted.{nets-sized, nets-count, nets-next, frames-early}
 use Rattle.method.proofs.Latest.{latest-append, latest-is}
 
@@ -185,12 +183,15 @@ module _ (task : Task) {a : Areas} (given : Given task a) (j : ℕ) (l : j < gat
           let w : length (allFanins (framesOf task j ++ (nextFrames (circuitIn task) (momentsIn task) j ∷ []))) ≤ mostFanins * length (allTimes (framesOf task j ++ (nextFrames (circuitIn task) (momentsIn task) j ∷ []))) =
           rw (nets-next task (given .read) j l) at (nets-sized task (given .read) (j + 1) (omega arith) .wide) in
           record {
-            directory = omega (arith, own-net, room-next .directory, length-append (framesOf task j) (nextFrames (circuitIn task) (momentsIn task) j ∷ []), count);
-            times = omega (arith, room-next .times, total-next);
+            slot =
+                record {
+                  directory = omega (arith, own-net, room-next .directory, length-append (framesOf task j) (nextFrames (circuitIn task) (momentsIn task) j ∷ []), count);
+                  times = omega (arith, room-next .times, total-next);
+                  few-frames = omega (arith, frames-low);
+                  few-fanins = omega (arith, fanins-next, total-next, frames-low);
+                };
             inertial = omega (arith, room-next .inertial, total-next);
             fanins = omega (arith, room-next .fanins, fanins-next);
-            few-frames = omega (arith, frames-low);
-            few-fanins = omega (arith, fanins-next, total-next, frames-low);
           }
 
       own-length : length (take (n - 0) (drop 0 row)) ≡ n
@@ -209,10 +210,10 @@ module _ (task : Task) {a : Areas} (given : Given task a) (j : ℕ) (l : j < gat
         behind : Behind (framesOf task j) (nextFrames (circuitIn task) (momentsIn task) j) a a′
         behind =
             let even = nets-sized task (given .read) j (omega arith) .even in
-            let d : a′ .directory ≡ sets (a .directory) (2 * net) (t .frames ∷ length (nextFrames (circuitIn task) (momentsIn task) j .times) ∷ []) = rw (← own-is) (st .directory-is) in
+            let d : a′ .directory ≡ sets (a .directory) (2 * net) (t .frames ∷ length (nextFrames (circuitIn task) (momentsIn task) j .times) ∷ []) = rw (← own-is) (st .timed .directory-is) in
             record {
               directory = rw (count, ← own-net, ← frames-sum) d;
-              times = rw (← frames-sum, ← own-is) (st .times-are);
+              times = rw (← frames-sum, ← own-is) (st .timed .times-are);
               inertial =
                   st .inertial-is
                   ∙ ap₂ (sets (a .inertial)) (frames-sum ∙ sym even) (ap₂ inertialIndices (ap (λ (x : Gate). x .inertial) (sym read)) own-is ∙ sym (next-inertial (circuitIn task) (momentsIn task) j));
@@ -225,14 +226,14 @@ module _ (task : Task) {a : Areas} (given : Given task a) (j : ℕ) (l : j < gat
 
         last-next : t′ .last .0 ≡ latest (allTimes (framesOf task j) ++ nextFrames (circuitIn task) (momentsIn task) j .times)
         last-next =
-            st .last-is ∙ ap₂ max last-is (rw own-is (sym (latest-is (nextFrames (circuitIn task) (momentsIn task) j .times) own-starts)))
+            st .timed .last-is ∙ ap₂ max last-is (rw own-is (sym (latest-is (nextFrames (circuitIn task) (momentsIn task) j .times) own-starts)))
             ∙ sym (latest-append (allTimes (framesOf task j)) (nextFrames (circuitIn task) (momentsIn task) j .times))
 
         totals-next : t′ ≡ totalsOf (framesOf task j ++ (nextFrames (circuitIn task) (momentsIn task) j ∷ []))
         unfolding totalsOf
         totals-next =
-            let f : length (allTimes (framesOf task j ++ (nextFrames (circuitIn task) (momentsIn task) j ∷ []))) ≡ t′ .frames = omega (arith, total-next, st .frames-sum, own-length) in
-            let w : length (allFanins (framesOf task j ++ (nextFrames (circuitIn task) (momentsIn task) j ∷ []))) ≡ t′ .fanins = fanins-next ∙ sym (st .fanins-sum ∙ rw own-length) in
+            let f : length (allTimes (framesOf task j ++ (nextFrames (circuitIn task) (momentsIn task) j ∷ []))) ≡ t′ .frames = omega (arith, total-next, st .timed .frames-sum, own-length) in
+            let w : length (allFanins (framesOf task j ++ (nextFrames (circuitIn task) (momentsIn task) j ∷ []))) ≡ t′ .fanins = fanins-next ∙ sym (st .timed .fanins-sum ∙ rw own-length) in
             rw (f, w, times-snoc (framesOf task j) (nextFrames (circuitIn task) (momentsIn task) j), ← last-next)
 
         stepped : Going task (j + 1) a′ t′
@@ -254,10 +255,7 @@ module _ (task : Task) {a : Areas} (given : Given task a) (j : ℕ) (l : j < gat
   over : {row : List ℕ} → Counted row (gateTimes (g .delay) (spans (task .file) (g .list) (g .entries) (a .directory) (a .times))) (t .frames) 0 → fits (framesOf task (j + 1)) ≡ false
   over k =
       rw (nets-next task (given .read) j l)
-      (elim (order (length (nextFrames (circuitIn task) (momentsIn task) j .times)) mostNetFrames) [
-        | inl few ↦ fits-many (framesOf task j) (nextFrames (circuitIn task) (momentsIn task) j) (elim (order (length (nextFrames (circuitIn task) (momentsIn task) j .times)) (mostTotalFrames - t .frames)) [ inl left ↦ absurd (k .over refl (omega (arith, next-length)) (omega (arith, next-length))) | inr many ↦ omega (arith, many, frames-sum) ])
-        | inr long ↦ fits-long (framesOf task j) (nextFrames (circuitIn task) (momentsIn task) j) (omega (arith, long))
-      ])
+      (fits-over (framesOf task j) (nextFrames (circuitIn task) (momentsIn task) j) (λ few total. k .over refl (omega (arith, next-length)) (omega (arith, next-length, frames-sum))))
 
   pub step : Step task net j a t g
   step = record { fed = fed; frames-low = frames-low; over = over; stays = λ k some. stays (k .front some) (k .few) (k .left) }

@@ -1,6 +1,6 @@
 -- Question 13: what it says of the nets, a net more, and that once the first gates have too many frames, so has the circuit.
 -- Assumes nothing.
-use Prim.Native.Nat.{ℕ, zero, suc, _+_, _-_, _≤_, _<_}
+use Prim.Native.Nat.{ℕ, zero, suc, _+_, _-_, _≤_}
 use mathlib.Core.Path.{_≡_, refl, sym, _∙_}
 use mathlib.Core.Logic.{inl, inr}
 use mathlib.Core.Bool.{Bool, true, false, _&&_, false≢true}
@@ -67,14 +67,11 @@ module _ (fs : List Frames) (x : Frames) where
   fits-before : fits (fs ++ (x ∷ [])) ≡ true → fits fs ≡ true
   fits-before e = fits-yes fs (and-left (every (map small fs)) (small x) (snoc-small e)) (omega (arith, fits-total (fs ++ (x ∷ [])) e, total-more fs x))
 
-  pub fits-long : mostNetFrames < length (x .times) → fits (fs ++ (x ∷ [])) ≡ false
-  fits-long h =
+  -- a net of too many frames, or too many with it
+  pub fits-over : (length (x .times) ≤ mostNetFrames → length (allTimes fs) + length (x .times) ≤ mostTotalFrames → ⊥) → fits (fs ++ (x ∷ [])) ≡ false
+  fits-over h =
       refuted (fits (fs ++ (x ∷ []))) (λ e.
-      let k : length (x .times) ≤ mostNetFrames = leb-true (length (x .times)) mostNetFrames (and-right (every (map small fs)) (small x) (snoc-small e)) in
-      omega arith)
-
-  pub fits-many : mostTotalFrames < length (allTimes fs) + length (x .times) → fits (fs ++ (x ∷ [])) ≡ false
-  fits-many h = refuted (fits (fs ++ (x ∷ []))) (λ e. omega (arith, fits-total (fs ++ (x ∷ [])) e, total-more fs x))
+      h (leb-true (length (x .times)) mostNetFrames (and-right (every (map small fs)) (small x) (snoc-small e))) (omega (arith, fits-total (fs ++ (x ∷ [])) e, total-more fs x)))
 
 -- ---- later gates add frames only
 

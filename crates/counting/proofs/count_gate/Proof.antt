@@ -5,7 +5,7 @@ use Rattle.editions.specs.declared.GateRecord.{GateRecord}
 use Rattle.method.specs.Areas.{areas}
 use Rattle.circuit.specs.Task.{taskOf}
 use Rattle.layout.proofs.Stepping.{Step, step}
-use Rattle.counting.proofs.Walking.{slot, counted, counted-now, counted-many}
+use Rattle.counting.proofs.Walking.{counted, counted-now, counted-many}
 use borrow.Author.Needs.{needs}
 use Rattle.counting.proofs.count_gate.Statement.{statement}
 use Rattle.counting.proofs.count_gate.Tie as tie
@@ -48,7 +48,7 @@ part-own-end c = search needs
 store-times-requires : tie.Need-store-times-requires
 store-times-requires c κs =
     let f = known (c .before .before .before .before .before .before .before .before .before .before .before) .stays (c .before .before .before .before .before .before .before .time-gate .ensures) (c .before .before .before .before .if1 .left) in
-    (f .times, slot f)
+    (f .times, f .place .slot)
 
 same-length-4 : tie.Need-same-length-4
 same-length-4 c = search needs
