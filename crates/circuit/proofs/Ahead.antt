@@ -1,16 +1,16 @@
 -- The reader's questions ahead of a call's own.
 -- Assumes nothing.
 use Prim.Native.Nat.{ℕ, _≤_}
-use mathlib.Core.Path.{_≡_, sym, _∙_}
+use mathlib.Core.Path.{_≡_, sym, ap, _∙_}
 use mathlib.Core.List.{List, _++_}
 use native.Mathlib.Omega.{arith}
-use Rattle.lists.specs.Ladder.{Question, firstNo, accepted, refused, unless}
-use Rattle.lists.proofs.Ladders.{first, first-here, first-none, firstNo-append, accepted-none, refused-some, unless-none}
+use Rattle.lists.specs.Ladder.{Question, firstNo, Answer, answer, accepted, refused, unless}
+use Rattle.lists.proofs.Ladders.{first, first-here, first-none, firstNo-append, accepted-none, refused-some, unless-none, unless-some}
 use Rattle.editions.specs.declared.Reading.{Reading}
 use Rattle.editions.specs.declared.Reading.the-variants as R
 use Rattle.editions.specs.Questions as editions
 use Rattle.circuit.specs.File.{inputsOf, gatesOf}
-use Rattle.circuit.specs.Questions.{questions, readOf, inputsAndGatesOf, onPaper}
+use Rattle.circuit.specs.Questions.{InputsAndGates, questions, readOf, inputsAndGatesOf, onPaper}
 use Rattle.circuit.proofs.Present.{questions-numbered}
 use Rattle.circuit.proofs.Parts.{reading-accepted, inputs-are, gates-are}
 
@@ -54,3 +54,44 @@ module _ (file : List ℕ) (own : List Question) where
         let i = inputs-are file a in
         let g = gates-are file a in
         (a ∙ rw (i, g), i, g)
+
+-- ---- a call's questions by themselves, answered as the reader answers: the number of the first "no", or I and G
+
+module _ (file : List ℕ) (own : List Question) where
+  abbrev answered : Answer InputsAndGates
+  answered = answer (questions file ++ own) (inputsAndGatesOf file)
+
+  refusal : {n : ℕ} → firstNo (questions file ++ own) ≡ n → (n ≡ 0 → ⊥) → onPaper (R.Refused n) ≡ answered
+  unfolding onPaper
+  refusal {n} e some = sym (rw e (unless-some n (inputsAndGatesOf file) some))
+
+  module _ {r : Reading} (f : onPaper r ≡ readOf file) where
+    pub reader-no : {n : ℕ} → r ≡ R.Refused n → onPaper (R.Refused n) ≡ answered
+    reader-no e = let q = read-no file own f e in refusal (q .0) (λ z. omega (arith, q .1))
+
+    module _ {inputs gates : ℕ} (e : r ≡ R.Accepted inputs gates) {n : ℕ} (is : n ≡ firstNo own) where
+      own-is : firstNo (questions file ++ own) ≡ n
+      own-is = own-decide file own (read-yes file own f e .0) ∙ sym is
+
+      pub own-no : (n ≡ 0 → ⊥) → onPaper (R.Refused n) ≡ answered
+      own-no some = refusal own-is some
+
+      pub own-yes : n ≡ 0 → onPaper (R.Accepted inputs gates) ≡ answered
+      unfolding onPaper editions.inputsAndGatesOf
+      own-yes z = let y = read-yes file own f e in sym (unless-none _ (inputsAndGatesOf file) (own-is ∙ z) ∙ rw (← y .1, ← y .2))
+
+  -- what their answer says
+  module _ {r : Reading} (f : onPaper r ≡ answered) where
+    pub asked-no : {n : ℕ} → r ≡ R.Refused n → (n ≡ firstNo (questions file ++ own)) × (n ≡ 0 → ⊥)
+    unfolding onPaper
+    asked-no {n} e =
+        let g : answered ≡ refused n = sym f ∙ rw e in
+        let q = refused-some (firstNo (questions file ++ own)) (inputsAndGatesOf file) g in
+        (sym (q .0), λ z. omega (arith, q .1))
+
+    pub asked-yes : {inputs gates : ℕ} → r ≡ R.Accepted inputs gates → (firstNo (questions file ++ own) ≡ 0) × (inputs ≡ inputsOf file) × (gates ≡ gatesOf file)
+    unfolding onPaper editions.inputsAndGatesOf
+    asked-yes {inputs} {gates} e =
+        let g : answered ≡ accepted (record { inputs = inputs; gates = gates }) = sym f ∙ rw e in
+        let y = accepted-none (firstNo (questions file ++ own)) (inputsAndGatesOf file) g in
+        (y .0, sym (ap (λ (s : InputsAndGates). s .inputs) (y .1)), sym (ap (λ (s : InputsAndGates). s .gates) (y .1)))

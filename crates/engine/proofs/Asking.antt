@@ -1,28 +1,27 @@
 -- Questions 1 to 11 and 20, as they are asked, and what it says that all of them were answered yes.
 -- Assumes nothing.
 use Prim.Native.Nat.{ℕ}
-use mathlib.Core.Path.{_≡_, sym, ap, _∙_}
+use mathlib.Core.Path.{_≡_, sym, _∙_}
 use mathlib.Core.Bool.{Bool, true, false, not}
 use mathlib.Core.List.{List, [], _∷_}
 use native.Mathlib.Omega.{arith}
 use lib.ListN.{length}
 use borrow.Author.Tests.{eqb-true, eq-eqb, ne-eqb, not-true, not-false}
-use Rattle.lists.specs.Ladder.{Question, _orElse_, firstNo, accepted, refused, unless}
+use Rattle.lists.specs.Ladder.{Question, _orElse_, firstNo, accepted}
 use Rattle.lists.proofs.Choices.{and-left, and-right}
-use Rattle.lists.proofs.Ladders.{asked, ask-yes, ask-no, all-asked, accepted-none, refused-some, unless-none, unless-some}
+use Rattle.lists.proofs.Ladders.{asked, ask-yes, ask-no, all-asked}
 use Rattle.method.specs.Changes.{Schedule, changesSuit}
 use Rattle.method.specs.WordLists.{Lengths, wordsSuit}
 use Rattle.circuit.specs.File.{inputsOf, gatesOf}
 use Rattle.editions.specs.declared.Reading.{Reading}
 use Rattle.editions.specs.declared.Reading.the-variants as R
-use Rattle.editions.specs.Questions as editions
 use Rattle.circuit.specs.Questions as reader
 use Rattle.circuit.specs.Task.{Task, framesIn}
 use Rattle.method.specs.Areas as planner
 use Rattle.planner.specs.Questions as plan
 use Rattle.engine.specs.Areas.{Areas, areas}
 use Rattle.engine.specs.Questions.{valuesLength, areasSuit, ownQuestions, firstQuestions, questionsOf}
-use Rattle.circuit.proofs.Ahead.{own-none, file-read, own-decide, read-no, read-yes}
+use Rattle.circuit.proofs.Ahead as ahead
 use Rattle.method.proofs.Fitting.{fits-total}
 use Rattle.planner.proofs.Calling.{given-all}
 use Rattle.simulation.specs.Simulated.{Ready}
@@ -64,54 +63,42 @@ module _ (task : Task) (l : Lengths) (a : Areas) where
   abbrev own : List Question
   own = ownQuestions (inputsOf (task .file)) (task .schedule) l a
 
-  refusal : {n : ℕ} → n ≡ firstNo (firstQuestions task l a) → (n ≡ 0 → ⊥) → reader.onPaper (R.Refused n) ≡ questionsOf task l a
-  unfolding questionsOf reader.onPaper
-  refusal {n} e some = sym (rw (← e) (unless-some n (reader.inputsAndGatesOf (task .file)) some))
-
   module _ {r : Reading} (f : reader.onPaper r ≡ reader.readOf (task .file)) where
     pub reader-no : {n : ℕ} → r ≡ R.Refused n → reader.onPaper (R.Refused n) ≡ questionsOf task l a
-    unfolding firstQuestions
-    reader-no e = let q = read-no (task .file) own f e in refusal (sym (q .0)) (λ z. omega (arith, q .1))
+    unfolding questionsOf firstQuestions
+    reader-no e = ahead.reader-no (task .file) own f e
 
     module _ {inputs gates : ℕ} (e : r ≡ R.Accepted inputs gates) {n : ℕ} (is : n ≡ firstNo (ownQuestions inputs (task .schedule) l a)) where
-      answered : (reader.readOf (task .file) ≡ accepted (record { inputs = inputsOf (task .file); gates = gatesOf (task .file) })) × (inputs ≡ inputsOf (task .file)) × (gates ≡ gatesOf (task .file))
-      answered = read-yes (task .file) own f e
-
-      own-is : n ≡ firstNo (firstQuestions task l a)
-      unfolding firstQuestions
-      own-is = is ∙ rw (answered .1) (sym (own-decide (task .file) own (answered .0)))
+      own-is : n ≡ firstNo own
+      own-is = is ∙ rw (ahead.read-yes (task .file) own f e .1)
 
       pub own-no : (n ≡ 0 → ⊥) → reader.onPaper (R.Refused n) ≡ questionsOf task l a
-      own-no some = refusal own-is some
+      unfolding questionsOf firstQuestions
+      own-no some = ahead.own-no (task .file) own f e own-is some
 
       pub own-yes : n ≡ 0 → reader.onPaper (R.Accepted inputs gates) ≡ questionsOf task l a
-      unfolding questionsOf reader.onPaper editions.inputsAndGatesOf
-      own-yes z = sym (unless-none _ (reader.inputsAndGatesOf (task .file)) (sym own-is ∙ z) ∙ rw (← answered .1, ← answered .2))
+      unfolding questionsOf firstQuestions
+      own-yes z = ahead.own-yes (task .file) own f e own-is z
 
   -- what their answer says
   module _ {r : Reading} (f : reader.onPaper r ≡ questionsOf task l a) where
     pub asked-no : {n : ℕ} → r ≡ R.Refused n → (n ≡ firstNo (firstQuestions task l a)) × (n ≡ 0 → ⊥)
-    unfolding reader.onPaper questionsOf
-    asked-no {n} e =
-        let g : unless (firstNo (firstQuestions task l a)) (reader.inputsAndGatesOf (task .file)) ≡ refused n = sym f ∙ rw e in
-        let q = refused-some (firstNo (firstQuestions task l a)) (reader.inputsAndGatesOf (task .file)) g in
-        (sym (q .0), λ z. omega (arith, q .1))
+    unfolding questionsOf firstQuestions
+    asked-no e = ahead.asked-no (task .file) own f e
 
     module _ {inputs gates : ℕ} (e : r ≡ R.Accepted inputs gates) where
-      yes : (firstNo (firstQuestions task l a) ≡ 0) × (reader.inputsAndGatesOf (task .file) ≡ record { inputs = inputs; gates = gates })
-      unfolding reader.onPaper questionsOf
-      yes = accepted-none (firstNo (firstQuestions task l a)) (reader.inputsAndGatesOf (task .file)) (sym f ∙ rw e)
+      yes : (firstNo (firstQuestions task l a) ≡ 0) × (inputs ≡ inputsOf (task .file)) × (gates ≡ gatesOf (task .file))
+      unfolding questionsOf firstQuestions
+      yes = ahead.asked-yes (task .file) own f e
 
       pub asked-none : firstNo (firstQuestions task l a) ≡ 0
       asked-none = yes .0
 
       pub asked-inputs : inputs ≡ inputsOf (task .file)
-      unfolding editions.inputsAndGatesOf
-      asked-inputs = sym (ap (λ (s : reader.InputsAndGates). s .inputs) (yes .1))
+      asked-inputs = yes .1
 
       pub asked-gates : gates ≡ gatesOf (task .file)
-      unfolding editions.inputsAndGatesOf
-      asked-gates = sym (ap (λ (s : reader.InputsAndGates). s .gates) (yes .1))
+      asked-gates = yes .2
 
 -- ---- all answered yes
 
@@ -129,11 +116,11 @@ areas-pass a e = (and-left (plan.areasSuit (a .plan)) _ e, eqb-true _ _ (and-rig
 pub passed : (task : Task) (l : Lengths) (a : Areas) → firstNo (firstQuestions task l a) ≡ 0 → Passed task l a
 unfolding firstQuestions
 passed task l a h =
-    let s = asked (areasSuit a) 10 _ (λ z. omega arith) (own-none (task .file) (own task l a) h) in
+    let s = asked (areasSuit a) 10 _ (λ z. omega arith) (ahead.own-none (task .file) (own task l a) h) in
     let w = asked (wordsSuit (inputsOf (task .file)) (length (task .schedule .times)) l) 11 _ (λ z. omega arith) (s .1) in
     let t = asked (changesSuit (inputsOf (task .file)) (task .schedule)) 20 [] (λ z. omega arith) (w .1) in
     let x = areas-pass a (s .0) in
-    record { read = file-read (task .file) (own task l a) h; suits = x .0; values = x .1; worded = w .0; timed = t .0 }
+    record { read = ahead.file-read (task .file) (own task l a) h; suits = x .0; values = x .1; worded = w .0; timed = t .0 }
 
 -- so a run may follow
 pub asked-yes : (task : Task) (l : Lengths) (a : Areas) {r : Reading} → reader.onPaper r ≡ questionsOf task l a → {inputs gates : ℕ} → r ≡ R.Accepted inputs gates
@@ -146,4 +133,4 @@ asked-yes task l a f e =
 pub passed-again : (task : Task) (l : Lengths) (a : Areas) → reader.readOf (task .file) ≡ accepted (record { inputs = inputsOf (task .file); gates = gatesOf (task .file) }) → areasSuit a ≡ true → wordsSuit (inputsOf (task .file)) (length (task .schedule .times)) l ≡ true
     → changesSuit (inputsOf (task .file)) (task .schedule) ≡ true → firstNo (firstQuestions task l a) ≡ 0
 unfolding firstQuestions
-passed-again task l a e s w t = own-decide (task .file) (own task l a) e ∙ (ask-yes (areasSuit a) 10 _ s ∙ ask-yes (wordsSuit (inputsOf (task .file)) (length (task .schedule .times)) l) 11 _ w ∙ ask-yes (changesSuit (inputsOf (task .file)) (task .schedule)) 20 [] t ∙ all-asked)
+passed-again task l a e s w t = ahead.own-decide (task .file) (own task l a) e ∙ (ask-yes (areasSuit a) 10 _ s ∙ ask-yes (wordsSuit (inputsOf (task .file)) (length (task .schedule .times)) l) 11 _ w ∙ ask-yes (changesSuit (inputsOf (task .file)) (task .schedule)) 20 [] t ∙ all-asked)

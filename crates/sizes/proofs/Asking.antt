@@ -1,7 +1,7 @@
 -- The fitted Run's questions, as they are asked, and what it says that all of them were answered yes.
 -- Assumes nothing.
 use Prim.Native.Nat.{ℕ, _+_, _*_}
-use mathlib.Core.Path.{_≡_, refl, sym, ap, ap₂, _∙_}
+use mathlib.Core.Path.{_≡_, refl, sym, ap₂, _∙_}
 use mathlib.Core.Bool.{Bool, true, false, not}
 use mathlib.Core.List.{List, [], _∷_, _++_}
 use native.Mathlib.Omega.{arith}
@@ -10,20 +10,19 @@ use lib.ListN.{length}
 use borrow.Author.Tests.{eqb-true, eq-eqb, ne-eqb, not-true, not-false}
 use Rattle.lists.specs.Ladder.{Question, _orElse_, firstNo, accepted, refused, unless}
 use Rattle.lists.proofs.Choices.{and-left, and-right}
-use Rattle.lists.proofs.Ladders.{isNumber, numbered, each-append, first, first-here, first-none, firstNo-append, asked, ask-yes, ask-no, all-asked, accepted-none, refused-some, unless-none, unless-some}
+use Rattle.lists.proofs.Ladders.{isNumber, numbered, each-append, first, first-here, first-none, firstNo-append, asked, ask-yes, ask-no, all-asked, accepted-none, refused-some}
 use Rattle.method.specs.declared.Totals.{Totals}
 use Rattle.method.specs.Changes.{changesSuit}
 use Rattle.method.specs.Sums.{fits, totalsOf}
 use Rattle.method.specs.WordLists.{Lengths, wordsSuit}
 use Rattle.editions.specs.declared.Reading.{Reading}
 use Rattle.editions.specs.declared.Reading.the-variants as R
-use Rattle.editions.specs.Questions as editions
 use Rattle.circuit.specs.File.{inputsOf, gatesOf}
 use Rattle.circuit.specs.Questions as reader
 use Rattle.circuit.specs.Task.{Task, netsIn, framesIn}
 use Rattle.circuit.proofs.Present.{questions-numbered}
 use Rattle.circuit.proofs.Parts.{circuit-inputs, gates-length}
-use Rattle.circuit.proofs.Ahead.{own-none, file-read, own-decide, read-no, read-yes}
+use Rattle.circuit.proofs.Ahead as ahead
 use Rattle.limiting.specs.declared.Planning.{Planning}
 use Rattle.limiting.specs.declared.Planning.the-variants as Q
 use Rattle.limiting.specs.Questions.{lastQuestions}
@@ -153,46 +152,33 @@ module _ (task : Task) (limit : ℕ) (l : Lengths) (a : Areas) where
   unfolding fittedQuestions
   fitted-numbered = each-append isNumber (reader.questions (task .file)) own (questions-numbered (task .file)) refl
 
-  refusal : {n : ℕ} → n ≡ firstNo (fittedQuestions task limit l a) → (n ≡ 0 → ⊥) → reader.onPaper (R.Refused n) ≡ questionsOf task limit l a
-  unfolding questionsOf reader.onPaper
-  refusal {n} e some = sym (rw (← e) (unless-some n (reader.inputsAndGatesOf (task .file)) some))
-
   module _ {r : Reading} (f : reader.onPaper r ≡ reader.readOf (task .file)) where
     pub reader-no : {n : ℕ} → r ≡ R.Refused n → reader.onPaper (R.Refused n) ≡ questionsOf task limit l a
-    unfolding fittedQuestions
-    reader-no e = let q = read-no (task .file) own f e in refusal (sym (q .0)) (λ z. omega (arith, q .1))
+    unfolding questionsOf fittedQuestions
+    reader-no e = ahead.reader-no (task .file) own f e
 
     module _ {inputs gates : ℕ} (e : r ≡ R.Accepted inputs gates) where
       pub reader-yes : (reader.readOf (task .file) ≡ accepted (record { inputs = inputsOf (task .file); gates = gatesOf (task .file) })) × (inputs ≡ inputsOf (task .file)) × (gates ≡ gatesOf (task .file))
-      reader-yes = read-yes (task .file) own f e
+      reader-yes = ahead.read-yes (task .file) own f e
 
       module _ {n : ℕ} (is : n ≡ firstNo own) where
-        own-is : n ≡ firstNo (fittedQuestions task limit l a)
-        unfolding fittedQuestions
-        own-is = is ∙ sym (own-decide (task .file) own (reader-yes .0))
-
         pub own-no : (n ≡ 0 → ⊥) → reader.onPaper (R.Refused n) ≡ questionsOf task limit l a
-        own-no some = refusal own-is some
+        unfolding questionsOf fittedQuestions
+        own-no some = ahead.own-no (task .file) own f e is some
 
         pub own-yes : n ≡ 0 → reader.onPaper (R.Accepted inputs gates) ≡ questionsOf task limit l a
-        unfolding questionsOf reader.onPaper editions.inputsAndGatesOf
-        own-yes z = sym (unless-none _ (reader.inputsAndGatesOf (task .file)) (sym own-is ∙ z) ∙ rw (← reader-yes .1, ← reader-yes .2))
+        unfolding questionsOf fittedQuestions
+        own-yes z = ahead.own-yes (task .file) own f e is z
 
   -- what their answer says
   module _ {r : Reading} (f : reader.onPaper r ≡ questionsOf task limit l a) where
     pub asked-no : {n : ℕ} → r ≡ R.Refused n → (n ≡ firstNo (fittedQuestions task limit l a)) × (n ≡ 0 → ⊥)
-    unfolding reader.onPaper questionsOf
-    asked-no {n} e =
-        let g : unless (firstNo (fittedQuestions task limit l a)) (reader.inputsAndGatesOf (task .file)) ≡ refused n = sym f ∙ rw e in
-        let q = refused-some (firstNo (fittedQuestions task limit l a)) (reader.inputsAndGatesOf (task .file)) g in
-        (sym (q .0), λ z. omega (arith, q .1))
+    unfolding questionsOf fittedQuestions
+    asked-no e = ahead.asked-no (task .file) own f e
 
     pub asked-yes : {inputs gates : ℕ} → r ≡ R.Accepted inputs gates → (firstNo (fittedQuestions task limit l a) ≡ 0) × (inputs ≡ inputsOf (task .file)) × (gates ≡ gatesOf (task .file))
-    unfolding reader.onPaper questionsOf editions.inputsAndGatesOf
-    asked-yes {inputs} {gates} e =
-        let g : unless (firstNo (fittedQuestions task limit l a)) (reader.inputsAndGatesOf (task .file)) ≡ accepted (record { inputs = inputs; gates = gates }) = sym f ∙ rw e in
-        let y = accepted-none (firstNo (fittedQuestions task limit l a)) (reader.inputsAndGatesOf (task .file)) g in
-        (y .0, sym (ap (λ (s : reader.InputsAndGates). s .inputs) (y .1)), sym (ap (λ (s : reader.InputsAndGates). s .gates) (y .1)))
+    unfolding questionsOf fittedQuestions
+    asked-yes e = ahead.asked-yes (task .file) own f e
 
 -- ---- all answered yes
 
@@ -208,11 +194,11 @@ pub passed : (task : Task) (limit : ℕ) (l : Lengths) (a : Areas) → firstNo (
 unfolding fittedQuestions
 passed task limit l a e =
     let qs = ownQuestions task limit l a in
-    let w = asked (wordsSuit (inputsOf (task .file)) (length (task .schedule .times)) l) 11 _ (λ z. omega arith) (own-none (task .file) qs e) in
+    let w = asked (wordsSuit (inputsOf (task .file)) (length (task .schedule .times)) l) 11 _ (λ z. omega arith) (ahead.own-none (task .file) qs e) in
     let t = asked (changesSuit (inputsOf (task .file)) (task .schedule)) 20 (lastOf task limit l a) (λ z. omega arith) (w .1) in
     let b = first-none (lastNo task limit) (firstNo ((justFits task a orElse 10) ∷ [])) (sym (last-joined task limit l a) ∙ t .1) in
     record {
-      read = file-read (task .file) qs e;
+      read = ahead.file-read (task .file) qs e;
       worded = w .0;
       timed = t .0;
       last = b .0;
@@ -224,7 +210,7 @@ passed task limit l a e =
 pub passes : (task : Task) (limit : ℕ) (l : Lengths) (a : Areas) → Passed task limit l a → firstNo (fittedQuestions task limit l a) ≡ 0
 unfolding fittedQuestions
 passes task limit l a p =
-    own-decide (task .file) (ownQuestions task limit l a) (p .read)
+    ahead.own-decide (task .file) (ownQuestions task limit l a) (p .read)
     ∙ ask-yes (wordsSuit (inputsOf (task .file)) (length (task .schedule .times)) l) 11 _ (p .worded)
     ∙ ask-yes (changesSuit (inputsOf (task .file)) (task .schedule)) 20 (lastOf task limit l a) (p .timed)
     ∙ last-joined task limit l a ∙ rw (p .last) (ask-yes (justFits task a) 10 [] (p .just) ∙ all-asked)
