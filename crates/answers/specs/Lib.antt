@@ -1,0 +1,2 @@
+-- The answers of the calls in numbers.
+pub mod Numbers

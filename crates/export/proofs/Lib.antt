@@ -1,0 +1,2 @@
+-- Mark on expectations that come as bytes.
+pub mod Marking

@@ -1,0 +1,2 @@
+-- Expectations as bytes.
+pub mod Records
