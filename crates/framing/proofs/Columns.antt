@@ -36,6 +36,18 @@ module _ (ts : List ℕ) (d width : ℕ) (ss : List ℕ) (k place : ℕ) (f : Li
   unfolding column
   column-end l = sym (h ∙ rw (drop-of-length-le ts l))
 
+-- the same of two fan-ins, whose indices lie side by side
+module _ (ts : List ℕ) (d : ℕ) (one other : List ℕ) (k place : ℕ) (f : List ℕ) {w : List ℕ} (h : w ≡ sets f place (flatMap (faninRow d (one ∷ other ∷ [])) (drop k ts))) where
+  pub pairs-on : k < length ts → {v u : ℕ} → v ≡ faninIndex d one (getD ts k 0) → u ≡ faninIndex d other (getD ts k 0) → w ≡ sets (set (set f place v) (place + 1) u) (place + 2) (flatMap (faninRow d (one ∷ other ∷ [])) (drop (k + 1) ts))
+  unfolding flatMap
+  pairs-on l q r =
+      let two : place + 2 ≡ suc (suc place) = omega arith in
+      h ∙ rw (drop-cons ts k 0 l, add-one k, add-one place, two, q, r)
+
+  pub pairs-end : length ts ≤ k → f ≡ w
+  unfolding flatMap
+  pairs-end l = sym (h ∙ rw (drop-of-length-le ts l))
+
 -- places in the area
 pub place-in : (at n k width m p : ℕ) → p ≡ at + k * width → at + n * width < m + width → k < n → p < m
 place-in at n k width m p e h b =

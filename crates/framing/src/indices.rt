@@ -1,6 +1,6 @@
 // The inertial indices and the fan-in indices of one gate, from its times and those of its fan-ins.
 ghost use mathlib.Core.Path.{_≡_};
-ghost use mathlib.Core.List.{map, flatMap};
+ghost use mathlib.Core.List.{[], _∷_, map, flatMap};
 ghost use Prim.Native.Nat.{_+_, _-_, _*_, _≤_, _<_};
 ghost use lib.ListN.{length};
 ghost use lib.Seq.{sets};
@@ -33,9 +33,63 @@ pub(crate) fn inertial_row(own: &[Tick], reach: Tick, inertial: &mut [u16], firs
     }
 }
 
-// Writes the fan-in indices of all frames of a gate, whose own times these are, from `first` on: a row a frame, filled
-// fan-in by fan-in.
+// Writes the fan-in indices of all frames of a gate, whose own times these are, from `first` on: a row a frame. Most gates have two
+// fan-ins, which are walked side by side.
 pub(crate) fn index_rows(
+    file: &[u8],
+    gate: GateRecord,
+    directory: &[u16],
+    times: &[Tick],
+    own: &[Tick],
+    fanins: &mut [u16],
+    first: usize,
+)
+    requires { ⌜ Fed (now file) gate (now directory) (now times) ⌝ }
+    requires { ⌜ Span (now own) × (now own ≡ gateTimes (gate .delay) (spans (now file) (gate .list) (gate .entries) (now directory) (now times))) ⌝ }
+    requires { ⌜ first + length (now own) * gate .entries ≤ length (now fanins) ⌝ }
+    ensures { λ _. ⌜ now (fanins .exit) ≡ sets (now (fanins .entry)) first (flatMap (faninRow (gate .delay) (spans (now (file .entry)) (gate .list) (gate .entries) (now (directory .entry)) (now (times .entry)))) (now (own .entry))) ⌝ }
+{
+    let delay = gate.delay;
+    let list = gate.list;
+    if gate.entries == 2 {
+        let one = times_of(directory, times, circuit::fanin_at(file, list, 0));
+        let other = times_of(directory, times, circuit::fanin_at(file, list, 1));
+        index_pairs(one, other, delay, own, fanins, first);
+        return;
+    }
+    index_columns(file, gate, directory, times, own, fanins, first);
+}
+
+// The same for two fan-ins with these times.
+fn index_pairs(
+    one: &[Tick],
+    other: &[Tick],
+    delay: Tick,
+    own: &[Tick],
+    fanins: &mut [u16],
+    first: usize,
+)
+    requires { ⌜ Span (now one) × Span (now other) × (delay ≤ mostDelay) ⌝ }
+    requires { ⌜ Span (now own) × Shown delay (now one) (now own) × Shown delay (now other) (now own) ⌝ }
+    requires { ⌜ first + length (now own) * 2 ≤ length (now fanins) ⌝ }
+    ensures { λ _. ⌜ now (fanins .exit) ≡ sets (now (fanins .entry)) first (flatMap (faninRow delay (now (one .entry) ∷ now (other .entry) ∷ [])) (now (own .entry))) ⌝ }
+{
+    let mut x = 0;
+    let mut y = 0;
+    let mut place = first;
+    let mut k = 0;
+    while k < own.len() {
+        x = begun_by(one, delay, x, Time(own[k]));
+        y = begun_by(other, delay, y, Time(own[k]));
+        fanins[place] = Frame(x as u16).0;
+        fanins[place + 1] = Frame(y as u16).0;
+        place += 2;
+        k += 1;
+    }
+}
+
+// The same for any number of fan-ins, one after the other.
+fn index_columns(
     file: &[u8],
     gate: GateRecord,
     directory: &[u16],
