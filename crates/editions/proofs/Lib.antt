@@ -5,6 +5,7 @@ pub mod Widths
 pub mod Heads
 pub mod Gated
 pub mod Accepted
+pub mod Lying
 pub mod Written
 pub mod Encoded
 pub mod Faithful

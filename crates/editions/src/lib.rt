@@ -1,6 +1,7 @@
 // The circuit file in its two editions: questions 1 to 9, and a gate's record. One reader serves both.
 ghost use mathlib.Core.Path.{_≡_};
-ghost use Prim.Native.Nat.{_+_, _*_, _≤_};
+ghost use Prim.Native.Nat.{_+_, _*_, _≤_, _<_};
+ghost use lib.ListN.{length};
 ghost use Rattle.lists.specs.Ladder.{firstNo, between};
 ghost use Rattle.lists.specs.Tables.{tabulate, allBelow};
 ghost use mathlib.Core.List.{flatten};
@@ -9,6 +10,7 @@ ghost use Rattle.editions.specs.Edition as edition;
 ghost use Rattle.editions.specs.File.{inputsOf, headLength, faninAt, kindOf, recordOf};
 ghost use Rattle.editions.specs.Questions.{fills, headQuestions, gateQuestions, lengthSuits, readOf, onPaper};
 ghost use Rattle.editions.specs.Limits.{mostInputs, mostGates, delaysSuit};
+ghost use Rattle.editions.specs.Lies.{Lies};
 
 mod bytes;
 
@@ -24,6 +26,7 @@ use method::Net;
 use method::Tick;
 use numbers::byte_at;
 use numbers::number_at;
+use numbers::number_in;
 
 const MOST_INPUTS: u16 = 32;
 
@@ -122,17 +125,20 @@ pub fn gate_at(edition: Edition, file: &[u8], j: u16) -> GateRecord
     }
 }
 
-// The same in the present edition, written out for planning and evaluation, which read a record for every gate: it is inlined
-// there, and so is the general one in the reader.
+// The same in the present edition of a gate that is there, written out for planning and evaluation, which read a record for every
+// gate: nothing is tested.
 pub fn present_gate(file: &[u8], j: u16) -> GateRecord
+    requires { ⌜ Lies (now file) j ⌝ }
     ensures { λ r. ⌜ r ≡ recordOf edition.present (now (file .entry)) j ⌝ }
 {
-    let start = offset_of(file, j);
-    let kind = kind_of(byte_at(file, start as usize));
-    let delay = number_at(file, start as usize + 1) as Tick;
-    let inertial = number_at(file, start as usize + 3) as Tick;
+    let pair = 4 * (j as usize);
+    let start = number_in(file, 4 + pair);
+    let first = start as usize;
+    let kind = kind_of(file[first]);
+    let delay = number_in(file, first + 1) as Tick;
+    let inertial = number_in(file, first + 3) as Tick;
     let list = start as u32 + 5;
-    let entries = entries_of(length_of(file, j), 5);
+    let entries = entries_of(number_in(file, 6 + pair), 5);
     GateRecord {
         kind,
         delay,
@@ -147,6 +153,14 @@ pub fn fanin_at(file: &[u8], list: u32, i: u16) -> Net
     ensures { λ r. ⌜ r .0 ≡ faninAt (now (file .entry)) list i ⌝ }
 {
     Net(number_at(file, list as usize + 2 * (i as usize)))
+}
+
+// The same of an entry that is there, which is not tested.
+pub fn fanin_in(file: &[u8], list: u32, i: u16) -> Net
+    requires { ⌜ list + 2 * i + 1 < length (now file) ⌝ }
+    ensures { λ r. ⌜ r .0 ≡ faninAt (now (file .entry)) list i ⌝ }
+{
+    Net(number_in(file, list as usize + 2 * (i as usize)))
 }
 
 // Questions 1 to 5: the number of the first "no", or 0.

@@ -176,6 +176,7 @@ module _ {file : List ℕ} {near : ℕ → ℕ} {fs : List Frames} {d i f : List
   gate-ready {size} s =
       record {
         pair = omega (arith, there, x .pairs);
+        fanin-list = own .listed;
         fanin-pair = λ e m. omega (arith, fanin-below e m, there, x .pairs);
         raw = record {
           taken = taken;

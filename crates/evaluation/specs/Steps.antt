@@ -129,6 +129,7 @@ gateWords file d i f net g at v =
 -- the plan's areas hold what evaluating the gate reads
 pub record Ready (file d i f : List ℕ) (size net : ℕ) (g : GateRecord) (at : ℕ) : Type 0 where
   pub pair : 2 * net + 1 < length d
+  pub fanin-list : g .list + 2 * g .entries ≤ length file
   pub fanin-pair : (e : ℕ) → e < g .entries → 2 * faninAt file (g .list) e < length d
   pub raw : Raw size (basesOf file d g) f (g .kind) at (g .entries) (firstFrame d net) (frameCount d net)
   pub indices : firstFrame d net + frameCount d net ≤ length i

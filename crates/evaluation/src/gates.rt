@@ -127,7 +127,7 @@ fn raw_words(
     at: usize,
 )
     requires { ⌜ Raw (length (now values)) (basesOf (now file) (now directory) gate) (now fanins) (gate .kind) at (gate .entries) first frames ⌝ }
-    requires { ⌜ ((e : ℕ) → e < gate .entries → 2 * faninAt (now file) (gate .list) e < length (now directory)) ⌝ }
+    requires { ⌜ (gate .list + 2 * gate .entries ≤ length (now file)) × ((e : ℕ) → e < gate .entries → 2 * faninAt (now file) (gate .list) e < length (now directory)) ⌝ }
     ensures { λ _. ⌜ now (values .exit) ≡ sets (now (values .entry)) first (rawWords (now (values .entry)) (basesOf (now (file .entry)) (now (directory .entry)) gate) (now (fanins .entry)) (gate .kind) (gate .entries) at frames) ⌝ }
 {
     let kind = gate.kind;
@@ -155,7 +155,7 @@ fn raw_words(
 
 // Where the frames of each of a gate's fan-ins start, whose list has `entries` entries and starts at byte `list`.
 fn bases_of(file: &[u8], directory: &[u16], list: u32, entries: u16) -> [usize; 8]
-    requires { ⌜ (entries ≤ mostFanins) × ((e : ℕ) → e < entries → 2 * faninAt (now file) list e < length (now directory)) ⌝ }
+    requires { ⌜ (entries ≤ mostFanins) × (list + 2 * entries ≤ length (now file)) × ((e : ℕ) → e < entries → 2 * faninAt (now file) list e < length (now directory)) ⌝ }
     ensures { λ r. ⌜ Bases (now (file .entry)) (now (directory .entry)) list entries r ⌝ }
 {
     let mut bases = [0usize; 8];
@@ -169,7 +169,7 @@ fn bases_of(file: &[u8], directory: &[u16], list: u32, entries: u16) -> [usize; 
 
 // Where the frames of the net start that entry e of a fan-in list names.
 fn base_of(file: &[u8], directory: &[u16], list: u32, e: u16) -> usize
-    requires { ⌜ 2 * faninAt (now file) list e < length (now directory) ⌝ }
+    requires { ⌜ (list + 2 * e + 1 < length (now file)) × (2 * faninAt (now file) list e < length (now directory)) ⌝ }
     ensures { λ r. ⌜ r ≡ firstFrame (now (directory .entry)) (faninAt (now (file .entry)) list e) ⌝ }
 {
     let fanin = circuit::fanin_at(file, list, e);

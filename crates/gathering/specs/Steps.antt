@@ -47,13 +47,14 @@ pub record Added (row row′ : List ℕ) (count : ℕ) (ts : List ℕ) (r : ℕ)
 abbrev pub spans : List ℕ → ℕ → ℕ → List ℕ → List ℕ → List (List ℕ)
 spans file list entries d t = map (partOf d t) (tabulate entries (faninAt file list))
 
--- a gate within the limits whose fan-ins are all there: each has its pair in the directory and its times in the area, not
--- too many, from 0 on and rising; no time in the area is late
+-- a gate within the limits whose fan-in list is there, and whose fan-ins all are: each has its pair in the directory and its times in
+-- the area, not too many, from 0 on and rising; no time in the area is late
 pub record Fed (file : List ℕ) (g : GateRecord) (d t : List ℕ) : Type 0 where
   pub delay-least : 1 ≤ g .delay
   pub delay-most : g .delay ≤ mostDelay
   pub inertial-most : g .inertial ≤ mostDelay
   pub entries-most : g .entries ≤ mostFanins
+  pub listed : g .list + 2 * g .entries ≤ length file
   pub pair : (e : ℕ) → e < g .entries → 2 * faninAt file (g .list) e + 1 < length d
   pub inside : (e : ℕ) → e < g .entries → getD d (2 * faninAt file (g .list) e) 0 + getD d (2 * faninAt file (g .list) e + 1) 0 ≤ length t
   pub few : (e : ℕ) → e < g .entries → getD d (2 * faninAt file (g .list) e + 1) 0 ≤ mostNetFrames

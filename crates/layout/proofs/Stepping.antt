@@ -119,6 +119,7 @@ module _ (task : Task) {a : Areas} (given : Given task a) (j : ℕ) (l : j < gat
         delay-most = rw ge (w .delay-most);
         inertial-most = rw ge (w .inertial-most);
         entries-most = rw ge (w .entries-most);
+        listed = rw ge (w .listed);
         pair = λ e h. omega (arith, below e h, count, room .directory);
         inside = λ e h. omega (arith, at (faninAt (task .file) (g .list) e) (below e h) .ends, room .times);
         few = λ e h. omega (arith, at (faninAt (task .file) (g .list) e) (below e h) .size, fits-net (framesOf task j) (go .fit) (faninAt (task .file) (g .list) e));

@@ -1,5 +1,7 @@
 // Numbers as bytes, the lowest byte first, at any place: past the end of the bytes they are 0.
 ghost use mathlib.Core.Path.{_≡_};
+ghost use Prim.Native.Nat.{_+_, _<_};
+ghost use lib.ListN.{length};
 ghost use Rattle.numbers.specs.Numbers.{byteAt, numberAt, wordAt};
 
 // The byte at a place.
@@ -19,6 +21,14 @@ pub fn number_at(bytes: &[u8], at: usize) -> u16
     if bytes.len() - 2 < at {
         return byte_at(bytes, at) as u16;
     }
+    number_in(bytes, at)
+}
+
+// The same of bytes that are there, which is not tested.
+pub fn number_in(bytes: &[u8], at: usize) -> u16
+    requires { ⌜ at + 1 < length (now bytes) ⌝ }
+    ensures { λ r. ⌜ r ≡ numberAt (now (bytes .entry)) at ⌝ }
+{
     let low = bytes[at];
     let high = bytes[at + 1];
     low as u16 + 256 * (high as u16)

@@ -6,6 +6,7 @@ use Rattle.method.specs.Areas.{areas}
 use Rattle.circuit.specs.Task.{taskOf}
 use Rattle.layout.proofs.Stepping.{Step, step}
 use Rattle.counting.proofs.Walking.{counted, counted-now, counted-many}
+use Rattle.circuit.proofs.Parts.{lies}
 use borrow.Author.Needs.{needs}
 use Rattle.counting.proofs.count_gate.Statement.{statement}
 use Rattle.counting.proofs.count_gate.Tie as tie
@@ -19,7 +20,7 @@ known : (c : tie.After-gate-at) → Known (c .before .before .before .before .be
 known c = let s = c .before .before .before .before .before .before .before in step _ (s .pre .0 .0 .given) _ (s .pre .0 .1) (s .pre .0 .2) (s .pre .0 .0 .going) (c .gate-at .ensures)
 
 gate-at-requires : tie.Need-gate-at-requires
-gate-at-requires c κs = search needs
+gate-at-requires c κs = let s = c .before .before .before .before .before .before in lies (now (s .args .file)) _ (s .pre .0 .0 .given .read) (s .args .j) (s .pre .0 .1)
 
 time-gate-requires : tie.Need-time-gate-requires
 time-gate-requires c κs = let k = known (c .before .before .before) in ((k .fed, k .frames-low), search needs)

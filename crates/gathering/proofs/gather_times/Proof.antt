@@ -28,7 +28,7 @@ loop-holds : tie.Need-loop-holds Inv-loop μ-loop
 loop-holds c = (omega arith, omega arith, simp length-set, rw (← one-in (now (c .before .before .before .before .args .gathered)) (omega arith)))
 
 fanin-at-requires : tie.Need-fanin-at-requires Inv-loop μ-loop
-fanin-at-requires c κs = search needs
+fanin-at-requires c κs = omega (arith, c .before .before .before .before .before .before .pre .0 .listed, c .loop-test .taken)
 
 times-of-requires : tie.Need-times-of-requires Inv-loop μ-loop
 times-of-requires c κs = fanin-there (c .before .before .before .before .before .before .before .pre .0) (c .before .before .loop .e) (c .before .loop-test .taken) (c .fanin-at .ensures)

@@ -9,7 +9,8 @@ use Rattle.method.specs.WordLists.{WordLists}
 use Rattle.circuit.specs.File.{gatesOf}
 use Rattle.circuit.specs.Task.{taskOf, framesIn}
 use Rattle.method.specs.Layout.{allFanins}
-use Rattle.circuit.proofs.Parts.{few}
+use denote.Ref.{now}
+use Rattle.circuit.proofs.Parts.{lies, few}
 use Rattle.evaluation.specs.Steps.{Holds, Ready}
 use Rattle.evaluation.proofs.Gating.{rows-start, turn-ready, turn-rows, turn-holds}
 use borrow.Author.Needs.{needs}
@@ -33,7 +34,7 @@ loop-holds : tie.Need-loop-holds Inv-loop μ-loop
 loop-holds c = (omega arith, refl, rows-start (c .before .before .before .before .before .before .before .pre .0 .0) (c .before .before .before .before .before .before .before .pre .0 .1), (λ w h. rw add-zero h))
 
 gate-at-requires : tie.Need-gate-at-requires Inv-loop μ-loop
-gate-at-requires c κs = search needs
+gate-at-requires c κs = let s = c .before .before .before .before .before .before .before .before .before in lies (now (s .args .file)) _ (s .pre .0 .0 .read) (c .before .loop .j) (omega (arith, c .loop-test .taken, s .pre .0 .2))
 
 add-t15 : tie.Need-add-t15 Inv-loop μ-loop
 add-t15 c = omega (arith, few (c .before .before .before .before .before .before .before .before .before .before .args .file .now) (c .before .before .before .before .before .before .before .before .before .before .pre .0 .0 .read), c .before .before .before .before .before .before .before .before .before .before .pre .0 .1, c .before .before .before .before .before .before .before .before .before .before .pre .0 .2, c .before .loop-test .taken)

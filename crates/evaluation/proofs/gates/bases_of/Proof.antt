@@ -22,7 +22,7 @@ loop-holds : tie.Need-loop-holds Inv-loop μ-loop
 loop-holds c = (omega arith, refl, (λ i h. absurd (omega arith)))
 
 base-of-requires : tie.Need-base-of-requires Inv-loop μ-loop
-base-of-requires c κs = c .before .before .before .before .pre .1 (c .before .loop .e) (c .loop-test .taken)
+base-of-requires c κs = let s = c .before .before .before .before in (omega (arith, s .pre .1, c .loop-test .taken), s .pre .2 (c .before .loop .e) (c .loop-test .taken))
 
 cast-bases : tie.Need-cast-bases Inv-loop μ-loop
 cast-bases c = search needs

@@ -39,7 +39,7 @@ add-end : tie.Need-add-end
 add-end c = search needs
 
 raw-words-requires : tie.Need-raw-words-requires
-raw-words-requires c κs = (c .before .before .before .before .before .before .before .before .before .pre .raw, c .before .before .before .before .before .before .before .before .before .pre .fanin-pair)
+raw-words-requires c κs = let s = c .before .before .before .before .before .before .before .before .before in (s .pre .raw, (s .pre .fanin-list, s .pre .fanin-pair))
 
 same-length : tie.Need-same-length
 same-length c = search needs

@@ -27,7 +27,7 @@ loop-holds : tie.Need-loop-holds Inv-loop μ-loop
 loop-holds c = (refl, columns-all _ _ _ _ _ _ (spans-length _ _ _ _ _))
 
 fanin-at-requires : tie.Need-fanin-at-requires Inv-loop μ-loop
-fanin-at-requires c κs = search needs
+fanin-at-requires c κs = omega (arith, c .before .before .before .before .before .before .before .pre .0 .listed, c .loop-test .taken)
 
 times-of-requires : tie.Need-times-of-requires Inv-loop μ-loop
 times-of-requires c κs = fanin-there (c .before .before .before .before .before .before .before .before .pre .0) (c .before .before .loop .e) (c .before .loop-test .taken) (c .fanin-at .ensures)

@@ -9,13 +9,13 @@ use Rattle.framing.proofs.indices.index_rows.Statement.{statement}
 use Rattle.framing.proofs.indices.index_rows.Tie as tie
 
 fanin-at-requires : tie.Need-fanin-at-requires
-fanin-at-requires c κs = search needs
+fanin-at-requires c κs = omega (arith, c .before .before .before .before .before .before .before .pre .0 .listed, c .if1 .taken)
 
 times-of-requires : tie.Need-times-of-requires
 times-of-requires c κs = fanin-there ((c .before .before .before .before .before .before .before .before) .pre .0) 0 (omega (arith, c .before .if1 .taken)) (c .fanin-at .ensures)
 
 fanin-at-requires-2 : tie.Need-fanin-at-requires-2
-fanin-at-requires-2 c κs = search needs
+fanin-at-requires-2 c κs = omega (arith, c .before .before .before .before .before .before .before .before .before .pre .0 .listed, c .before .before .if1 .taken)
 
 times-of-requires-2 : tie.Need-times-of-requires-2
 times-of-requires-2 c κs = fanin-there ((c .before .before .before .before .before .before .before .before .before .before) .pre .0) 1 (omega (arith, c .before .before .before .if1 .taken)) (c .fanin-at2 .ensures)

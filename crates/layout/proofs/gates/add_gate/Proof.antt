@@ -5,6 +5,7 @@ use Rattle.editions.specs.declared.GateRecord.{GateRecord}
 use Rattle.circuit.specs.Task.{taskOf}
 use Rattle.method.specs.Areas.{areas}
 use Rattle.layout.proofs.Stepping.{Step, step, reached-now, reached-many}
+use Rattle.circuit.proofs.Parts.{lies}
 use borrow.Author.Needs.{needs}
 use Rattle.layout.proofs.gates.add_gate.Statement.{statement}
 use Rattle.layout.proofs.gates.add_gate.Tie as tie
@@ -18,7 +19,7 @@ known : (c : tie.After-gate-at) → Known (c .before .before .before .before .be
 known c = let s = c .before .before .before .before .before .before .before .before .before in step _ (s .pre .0 .0) _ (s .pre .0 .1) (s .pre .0 .2) (s .pre .1 .0) (c .gate-at .ensures)
 
 gate-at-requires : tie.Need-gate-at-requires
-gate-at-requires c κs = search needs
+gate-at-requires c κs = let s = c .before .before .before .before .before .before .before .before in lies (now (s .args .file)) _ (s .pre .0 .0 .read) (s .args .j) (s .pre .0 .1)
 
 time-gate-requires : tie.Need-time-gate-requires
 time-gate-requires c κs = let k = known (c .before .before .before) in ((k .fed, k .frames-low), search needs)
