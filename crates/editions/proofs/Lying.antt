@@ -10,6 +10,8 @@ use lib.Dec.{leb, eqb}
 use borrow.Author.Tests.{leb-true, eqb-true}
 use Rattle.lists.proofs.Choices.{here-or-later}
 use Rattle.method.specs.Kinds.{takes}
+use Rattle.method.specs.declared.Kind.{Kind}
+use Rattle.editions.specs.declared.Edition.{Edition}
 use Rattle.editions.specs.Edition.{present}
 use Rattle.editions.specs.File.{gatesOf, headLength, offsetOf, lengthOf, recordHead, recordLength, kindByte, kindOf, entriesOf, recordOf}
 use Rattle.editions.specs.Questions.{fills, lengthSuits}
@@ -22,11 +24,6 @@ both true b e = (refl, e)
 both false true e = absurd (false≢true e)
 both false false e = absurd (false≢true e)
 
--- record k lies within the file, and is not shorter than the least length
-pub record Fits (least : ℕ) (file : List ℕ) (k : ℕ) : Type 0 where
-  pub long : least ≤ lengthOf file k
-  pub inside : offsetOf file k + lengthOf file k ≤ length file
-
 -- what question 5 leaves: the end of the records before is within the file, and so is each record
 fills-end : (least : ℕ) (file : List ℕ) (n j end : ℕ) → fills least file n j end ≡ true → end ≤ length file
 unfolding fills
@@ -37,26 +34,32 @@ fills-end least file (suc n) j end e =
     let q = both (leb least (lengthOf file j)) rest (p .1) in
     omega (arith, eqb-true (offsetOf file j) end (p .0), fills-end least file n (suc j) (offsetOf file j + lengthOf file j) (q .1))
 
-fills-each : (least : ℕ) (file : List ℕ) (n j end : ℕ) → fills least file n j end ≡ true → (k : ℕ) → j ≤ k → k < j + n → Fits least file k
+fills-each : (least : ℕ) (file : List ℕ) (n j end : ℕ) → fills least file n j end ≡ true → (k : ℕ) → j ≤ k → k < j + n → 8 + 4 * k ≤ length file → Lies least file k
 unfolding fills
-fills-each least file zero j end e k a b = absurd (omega arith)
-fills-each least file (suc n) j end e k a b =
+fills-each least file zero j end e k a b p = absurd (omega arith)
+fills-each least file (suc n) j end e k a b pair =
     let rest : Bool = fills least file n (suc j) (offsetOf file j + lengthOf file j) in
     let p = both (eqb (offsetOf file j) end) (leb least (lengthOf file j) && rest) e in
     let q = both (leb least (lengthOf file j)) rest (p .1) in
-    here-or-later (Fits least file) j k a
-    (record { long = leb-true least (lengthOf file j) (q .0); inside = fills-end least file n (suc j) (offsetOf file j + lengthOf file j) (q .1) })
-    (λ h. fills-each least file n (suc j) (offsetOf file j + lengthOf file j) (q .1) k h (omega arith))
+    here-or-later (λ (k : ℕ). 8 + 4 * k ≤ length file → Lies least file k) j k a
+    (λ there. record { pair = there; long = leb-true least (lengthOf file j) (q .0); inside = fills-end least file n (suc j) (offsetOf file j + lengthOf file j) (q .1) })
+    (λ h. fills-each least file n (suc j) (offsetOf file j + lengthOf file j) (q .1) k h (omega arith)) pair
+
+-- each gate of a file that passes questions 1 to 5
+pub gate-lies : (e : Edition) (file : List ℕ) → Head e file → (j : ℕ) → j < gatesOf file → Lies (recordHead e) file j
+gate-lies e file h j l = fills-each (recordHead e) file (gatesOf file) 0 (headLength (gatesOf file)) (h .filled) j (omega arith) (omega arith) (omega (arith, h .room))
+
+-- and where its length suits, its fan-in list
+pub list-lies : (e : Edition) (file : List ℕ) (j : ℕ) → Lies (recordHead e) file j → (kind : Kind) → lengthSuits e (lengthOf file j) kind (entriesOf e file j) ≡ true
+    → recordOf e file j .list + 2 * recordOf e file j .entries ≤ length file
+unfolding recordOf lengthSuits
+list-lies e file j l kind suits =
+    let m : ℕ = entriesOf e file j in
+    omega (arith, eqb-true (lengthOf file j) (recordLength e m) (both (eqb (lengthOf file j) (recordLength e m)) (takes kind m) suits .0), l .inside)
 
 module _ (file : List ℕ) (j : ℕ) (h : Head present file) (l : j < gatesOf file) where
-  fits : Fits (recordHead present) file j
-  fits = fills-each (recordHead present) file (gatesOf file) 0 (headLength (gatesOf file)) (h .filled) j (omega arith) (omega arith)
-
-  pub present-lies : Lies file j
-  present-lies = record { pair = omega (arith, h .room, l); head = omega (arith, fits .long, fits .inside, head-of-five present refl) }
+  pub present-lies : Lies 5 file j
+  present-lies = rw (← head-of-five present refl) at (gate-lies present file h j l)
 
   pub present-listed : GatePassed present file j → recordOf present file j .list + 2 * recordOf present file j .entries ≤ length file
-  unfolding recordOf lengthSuits
-  present-listed g =
-      let m : ℕ = entriesOf present file j in
-      omega (arith, eqb-true (lengthOf file j) (recordLength present m) (both (eqb (lengthOf file j) (recordLength present m)) (takes (kindOf (kindByte file j)) m) (g .suits) .0), fits .inside, head-of-five present refl)
+  present-listed g = list-lies present file j (gate-lies present file h j l) (kindOf (kindByte file j)) (g .suits)

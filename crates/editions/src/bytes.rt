@@ -1,6 +1,7 @@
 // What single numbers of a circuit file say.
 ghost use mathlib.Core.Path.{_≡_};
-ghost use Prim.Native.Nat.{_-_, _/_};
+ghost use Prim.Native.Nat.{_+_, _-_, _*_, _/_, _≤_};
+ghost use lib.ListN.{length};
 ghost use Rattle.editions.specs.Edition.{delayBytes};
 ghost use Rattle.editions.specs.File.{offsetOf, lengthOf, recordHead, delayAt, kindOf};
 use crate::Edition;
@@ -8,6 +9,7 @@ use method::Kind;
 use method::Tick;
 use numbers::byte_at;
 use numbers::number_at;
+use numbers::number_in;
 
 // Where gate j's record starts.
 pub(crate) fn offset_of(file: &[u8], j: u16) -> u16
@@ -21,6 +23,21 @@ pub(crate) fn length_of(file: &[u8], j: u16) -> u16
     ensures { λ r. ⌜ r ≡ lengthOf (now (file .entry)) j ⌝ }
 {
     number_at(file, 6 + 4 * (j as usize))
+}
+
+// Both of a gate whose pair is there.
+pub(crate) fn offset_in(file: &[u8], j: u16) -> u16
+    requires { ⌜ 8 + 4 * j ≤ length (now file) ⌝ }
+    ensures { λ r. ⌜ r ≡ offsetOf (now (file .entry)) j ⌝ }
+{
+    number_in(file, 4 + 4 * (j as usize))
+}
+
+pub(crate) fn length_in(file: &[u8], j: u16) -> u16
+    requires { ⌜ 8 + 4 * j ≤ length (now file) ⌝ }
+    ensures { λ r. ⌜ r ≡ lengthOf (now (file .entry)) j ⌝ }
+{
+    number_in(file, 6 + 4 * (j as usize))
 }
 
 // How many bytes a delay has.
@@ -45,6 +62,18 @@ pub(crate) fn delay_at(edition: Edition, file: &[u8], at: usize) -> Tick
         number_at(file, at) as Tick
     } else {
         byte_at(file, at) as Tick
+    }
+}
+
+// The same of a delay that is there.
+pub(crate) fn delay_in(edition: Edition, file: &[u8], at: usize) -> Tick
+    requires { ⌜ at + delayBytes edition ≤ length (now file) ⌝ }
+    ensures { λ r. ⌜ r ≡ delayAt edition (now (file .entry)) at ⌝ }
+{
+    if edition.wide {
+        number_in(file, at) as Tick
+    } else {
+        file[at] as Tick
     }
 }
 

@@ -1,13 +1,13 @@
 // The circuit file in its two editions: questions 1 to 9, and a gate's record. One reader serves both.
 ghost use mathlib.Core.Path.{_≡_};
-ghost use Prim.Native.Nat.{_+_, _*_, _≤_, _<_};
+ghost use Prim.Native.Nat.{ℕ, _+_, _*_, _≤_, _<_};
 ghost use lib.ListN.{length};
 ghost use Rattle.lists.specs.Ladder.{firstNo, between};
 ghost use Rattle.lists.specs.Tables.{tabulate, allBelow};
 ghost use mathlib.Core.List.{flatten};
 ghost use Rattle.method.specs.Kinds.{takes};
 ghost use Rattle.editions.specs.Edition as edition;
-ghost use Rattle.editions.specs.File.{inputsOf, headLength, faninAt, kindOf, recordOf};
+ghost use Rattle.editions.specs.File.{inputsOf, headLength, recordHead, faninAt, kindOf, recordOf};
 ghost use Rattle.editions.specs.Questions.{fills, headQuestions, gateQuestions, lengthSuits, readOf, onPaper};
 ghost use Rattle.editions.specs.Limits.{mostInputs, mostGates, delaysSuit};
 ghost use Rattle.editions.specs.Lies.{Lies};
@@ -16,9 +16,12 @@ mod bytes;
 
 use bytes::delay_at;
 pub use bytes::delay_bytes;
+use bytes::delay_in;
 use bytes::entries_of;
 use bytes::kind_of;
+use bytes::length_in;
 use bytes::length_of;
+use bytes::offset_in;
 use bytes::offset_of;
 pub use bytes::record_head;
 use method::Kind;
@@ -128,7 +131,7 @@ pub fn gate_at(edition: Edition, file: &[u8], j: u16) -> GateRecord
 // The same in the present edition of a gate that is there, written out for planning and evaluation, which read a record for every
 // gate: nothing is tested.
 pub fn present_gate(file: &[u8], j: u16) -> GateRecord
-    requires { ⌜ Lies (now file) j ⌝ }
+    requires { ⌜ Lies 5 (now file) j ⌝ }
     ensures { λ r. ⌜ r ≡ recordOf edition.present (now (file .entry)) j ⌝ }
 {
     let pair = 4 * (j as usize);
@@ -199,13 +202,14 @@ fn inputs_suit(added: u16, held: u16) -> bool
 
 // Question 5: whether the pairs' records lie end to end, none shorter than the least length, and fill the file. No sum wraps.
 fn records_fill(file: &[u8], gates: u16, least: u16) -> bool
+    requires { ⌜ headLength gates ≤ length (now file) ⌝ }
     ensures { λ r. ⌜ r ≡ fills least (now (file .entry)) gates 0 (headLength gates) ⌝ }
 {
     let mut end = 4 + 4 * (gates as usize);
     let mut j: u16 = 0;
     while j < gates {
-        let start = offset_of(file, j) as usize;
-        let len = length_of(file, j);
+        let start = offset_in(file, j) as usize;
+        let len = length_in(file, j);
         if start != end {
             return false;
         }
@@ -221,6 +225,7 @@ fn records_fill(file: &[u8], gates: u16, least: u16) -> bool
 // Questions 6 to 9, gate by gate: the number of the first "no", or 0.
 fn gates_fault(edition: Edition, file: &[u8], inputs: u16, gates: u16) -> u8
     requires { ⌜ (inputs ≡ inputsOf edition (now file)) × (inputs ≤ mostInputs) × (gates ≤ mostGates) ⌝ }
+    requires { ⌜ ((j : ℕ) → j < gates → Lies (recordHead edition) (now file) j) ⌝ }
     ensures { λ r. ⌜ r ≡ firstNo (flatten (tabulate gates (gateQuestions edition (now (file .entry))))) ⌝ }
 {
     let mut j: u16 = 0;
@@ -236,25 +241,47 @@ fn gates_fault(edition: Edition, file: &[u8], inputs: u16, gates: u16) -> u8
 
 // Questions 6 to 9 of gate j, which drives `net`: the number of the first "no", or 0.
 fn gate_fault(edition: Edition, file: &[u8], j: u16, net: Net) -> u8
-    requires { ⌜ net .0 ≡ inputsOf edition (now file) + j ⌝ }
+    requires { ⌜ (net .0 ≡ inputsOf edition (now file) + j) × Lies (recordHead edition) (now file) j ⌝ }
     ensures { λ r. ⌜ r ≡ firstNo (gateQuestions edition (now (file .entry)) j) ⌝ }
 {
-    let start = offset_of(file, j);
-    let kind = byte_at(file, start as usize);
+    let start = offset_in(file, j) as usize;
+    let kind = file[start];
     if 7 < kind {
         return 6;
     }
-    let gate = gate_at(edition, file, j);
+    let gate = gate_in(edition, file, j);
     if !delays_suit(edition, gate.delay, gate.inertial) {
         return 7;
     }
-    if !length_suits(edition, length_of(file, j), kind, gate.entries) {
+    if !length_suits(edition, length_in(file, j), kind, gate.entries) {
         return 8;
     }
     if !fanins_below(file, gate.list, gate.entries, net) {
         return 9;
     }
     0
+}
+
+// Gate j's record, which is there.
+fn gate_in(edition: Edition, file: &[u8], j: u16) -> GateRecord
+    requires { ⌜ Lies (recordHead edition) (now file) j ⌝ }
+    ensures { λ r. ⌜ r ≡ recordOf edition (now (file .entry)) j ⌝ }
+{
+    let start = offset_in(file, j);
+    let head = record_head(edition);
+    let second = 1 + delay_bytes(edition) as usize;
+    let kind = kind_of(file[start as usize]);
+    let delay = delay_in(edition, file, start as usize + 1);
+    let inertial = delay_in(edition, file, start as usize + second);
+    let list = start as u32 + head as u32;
+    let entries = entries_of(length_in(file, j), head);
+    GateRecord {
+        kind,
+        delay,
+        inertial,
+        list,
+        entries,
+    }
 }
 
 // Question 7.
@@ -291,12 +318,13 @@ fn takes_entries(kind: u8, entries: u16) -> bool
 
 // Question 9: whether the entries of the fan-in list at byte `list` are all below `net`.
 fn fanins_below(file: &[u8], list: u32, entries: u16, net: Net) -> bool
+    requires { ⌜ list + 2 * entries ≤ length (now file) ⌝ }
     ensures { λ r. ⌜ r ≡ allBelow (net .0) (tabulate entries (faninAt (now (file .entry)) list)) ⌝ }
 {
     let own = net.0;
     let mut i: u16 = 0;
     while i < entries {
-        let fanin = fanin_at(file, list, i);
+        let fanin = fanin_in(file, list, i);
         if own <= fanin.0 {
             return false;
         }

@@ -25,7 +25,7 @@ add-t8 : tie.Need-add-t8 Inv-loop μ-loop
 add-t8 c = search needs
 
 gate-fault-requires : tie.Need-gate-fault-requires Inv-loop μ-loop
-gate-fault-requires c κs = search needs
+gate-fault-requires c κs = let s = c .before .before .before in (rw (s .pre .0 .0), s .pre .1 (c .before .loop .j) (c .loop-test .taken))
 
 returns : tie.Need-returns Inv-loop μ-loop
 returns c = fault-here _ _ _ _ (c .before .before .loop-test .taken) (c .before .before .before .loop .inv .1) (c .before .gate-fault .ensures) (c .if1 .taken)

@@ -5,6 +5,7 @@ use native.Mathlib.Omega.{arith}
 use Rattle.editions.specs.Questions.{onPaper}
 use Rattle.editions.proofs.Gated.{refused-head, refused-gates, accepted-all}
 use Rattle.editions.proofs.Accepted.{head-passed, counted}
+use Rattle.editions.proofs.Lying.{gate-lies}
 use borrow.Author.Needs.{needs}
 use Rattle.editions.proofs.read.Statement.{statement}
 use Rattle.editions.proofs.read.Tie as tie
@@ -26,7 +27,7 @@ gates-fault-requires : tie.Need-gates-fault-requires
 gates-fault-requires c κs =
     let h = head-passed _ _ (sym (c .before .before .before .head-fault .ensures) ∙ c .before .before .if1 .left) in
     let i = counted _ _ h .inputs-most in
-    (c .before .inputs-of .ensures, omega arith, omega (arith, h .gates-most))
+    ((c .before .inputs-of .ensures, omega arith, omega (arith, h .gates-most)), (λ j l. gate-lies _ _ h j (omega (arith, c .number-at .ensures))))
 
 returns-2 : tie.Need-returns-2
 unfolding onPaper
