@@ -19,7 +19,9 @@ use Rattle.method.proofs.Taking.{takes-range}
 use Rattle.editions.specs.declared.Edition.{Edition}
 use Rattle.editions.specs.declared.Reading.{Reading}
 use Rattle.editions.specs.declared.Reading.the-variants as R
-use Rattle.editions.specs.File.{inputsOf, gatesOf, delayOf, inertialOf, gateOf, circuitOf}
+use Rattle.editions.specs.File.{inputsOf, gatesOf, delayOf, inertialOf, gateOf, circuitOf, recordHead, kindByte, kindOf}
+use Rattle.editions.specs.Lies.{Lies}
+use Rattle.editions.proofs.Lying.{gate-lies, list-lies}
 use Rattle.editions.specs.Limits.{Writable}
 use Rattle.editions.specs.Questions as reader
 use Rattle.editions.proofs.Gated.{questions-numbered}
@@ -73,6 +75,10 @@ module _ (from to : Edition) (file area : List ℕ) where
       joined-rest : firstNo (questionsBy from to file area) ≡ firstNo rest
       joined-rest = joined ∙ rw read-none
 
+      -- what the function that asks 23 asks for
+      pub lie : (j : ℕ) → j < gates → Lies (recordHead from) file j
+      lie j l = gate-lies from file (all .head) j (omega (arith, gates-are from file read-yes))
+
       pub no-10 : (length area ≡ areaLength → ⊥) → outcome (onPaper (C.Refused 10)) area ≡ convertedBy from to file area
       unfolding convertedBy onPaper
       no-10 n = filed-no (questionsBy from to file area) _ area (joined-rest ∙ ask-no _ _ _ (ne-eqb _ _ n)) (λ z. omega arith)
@@ -94,7 +100,10 @@ module _ (from to : Edition) (file area : List ℕ) where
           each-fit fit j l =
               let both = low-at from file (to .most) (gatesOf file) (rw (gates-listed from file) at (low ∙ not-false b n)) j l in
               let own = gate-within from file j (all .gate j l) in
+              let there = gate-lies from file (all .head) j l in
               record {
+                lies = there;
+                listed = list-lies from file j there (kindOf (kindByte file j)) (all .gate j l .suits);
                 entries = omega (arith, takes-range _ _ (own .entries) .1, fanins-length from file j);
                 delay = omega (arith, both .0, fit .delays);
                 inertial = omega (arith, both .1, fit .delays);

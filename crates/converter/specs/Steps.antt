@@ -1,5 +1,5 @@
 -- What the crate's own functions ask of each other and promise. A reader of the calls' promises may skip this file.
-use Prim.Native.Nat.{ℕ, _+_, _-_, _≤_, _<_}
+use Prim.Native.Nat.{ℕ, _+_, _-_, _*_, _≤_, _<_}
 use mathlib.Core.Path.{_≡_}
 use mathlib.Core.List.{List, [], _∷_, _++_}
 use lib.ListN.{length}
@@ -11,7 +11,8 @@ use Rattle.lists.specs.Outcome.{Outcome}
 use Rattle.method.specs.Kinds.{mostFanins}
 use Rattle.method.specs.Circuit.{Gate}
 use Rattle.editions.specs.declared.Edition.{Edition}
-use Rattle.editions.specs.File.{inputsOf, gatesOf, delayOf, inertialOf, entriesOf, gateOf, circuitOf}
+use Rattle.editions.specs.File.{inputsOf, gatesOf, recordHead, delayOf, inertialOf, entriesOf, gateOf, circuitOf, recordOf}
+use Rattle.editions.specs.Lies.{Lies}
 use Rattle.editions.specs.Limits.{mostGates, delayRange}
 use Rattle.editions.specs.Questions as reader
 use Rattle.editions.specs.Encode.{encode}
@@ -33,8 +34,10 @@ convertedBy from to file area = filedBy (questionsBy from to file area) (encode 
 abbrev pub gatesIn : Edition → List ℕ → ℕ → ℕ → List Gate
 gatesIn from file n j = tabulateFrom (n - j) j (gateOf from file)
 
--- gate j can be written in an edition
+-- gate j is there, and can be written in an edition
 pub record Fit (from to : Edition) (file : List ℕ) (j : ℕ) : Type 0 where
+  pub lies : Lies (recordHead from) file j
+  pub listed : recordOf from file j .list + 2 * recordOf from file j .entries ≤ length file
   pub entries : entriesOf from file j ≤ mostFanins
   pub delay : delayOf from file j < delayRange to
   pub inertial : inertialOf from file j < delayRange to

@@ -1,10 +1,12 @@
 // A file written anew, in another edition than the one that it is read in.
 ghost use mathlib.Core.Path.{_≡_};
 ghost use mathlib.Core.List.{flatMap};
-ghost use Prim.Native.Nat.{_+_, _≤_};
+ghost use Prim.Native.Nat.{ℕ, _+_, _*_, _≤_, _<_};
+ghost use lib.ListN.{length};
 ghost use lib.Seq.{sets};
 ghost use Rattle.lists.specs.Tables.{tabulate};
-ghost use Rattle.editions.specs.File.{inputsOf, gatesOf, headLength, faninAt, gateOf};
+ghost use Rattle.editions.specs.File.{inputsOf, gatesOf, headLength, recordHead, faninAt, gateOf};
+ghost use Rattle.editions.specs.Lies.{Lies};
 ghost use Rattle.editions.specs.Encode.{twoBytes, encodeGate, encodePairs};
 ghost use Rattle.converter.specs.Convert.{delaysUpTo};
 ghost use Rattle.converter.specs.Steps.{gatesIn, Ready, Fits, Wrote, WroteFile};
@@ -19,6 +21,7 @@ use method::Tick;
 
 // Question 23: whether no delay of the first gates is above the greatest.
 pub(crate) fn delays_up_to(edition: Edition, most: Tick, file: &[u8], gates: u16) -> bool
+    requires { ⌜ ((j : ℕ) → j < gates → Lies (recordHead edition) (now file) j) ⌝ }
     ensures { λ r. ⌜ r ≡ delaysUpTo most (tabulate gates (gateOf edition (now (file .entry)))) ⌝ }
 {
     let mut j: u16 = 0;
@@ -98,6 +101,7 @@ fn write_record(from: Edition, to: Edition, file: &[u8], j: u16, area: &mut [u8]
 
 // The entries of the fan-in list that starts at byte `list`, from a place of the area on.
 fn copy_fanins(file: &[u8], list: u32, entries: u16, area: &mut [u8], at: u16)
+    requires { ⌜ list + 2 * entries ≤ length (now file) ⌝ }
     ensures { λ _. ⌜ now (area .exit) ≡ sets (now (area .entry)) at (flatMap twoBytes (tabulate entries (faninAt (now (file .entry)) list))) ⌝ }
 {
     let mut i: u16 = 0;

@@ -7,33 +7,18 @@ ghost use Rattle.editions.specs.File.{offsetOf, lengthOf, recordHead, de
 use crate::Edition;
 use method::Kind;
 use method::Tick;
-use numbers::byte_at;
-use numbers::number_at;
 use numbers::number_in;
 
-// Where gate j's record starts.
+// Where the record of a gate starts whose pair is there.
 pub(crate) fn offset_of(file: &[u8], j: u16) -> u16
-    ensures { λ r. ⌜ r ≡ offsetOf (now (file .entry)) j ⌝ }
-{
-    number_at(file, 4 + 4 * (j as usize))
-}
-
-// How long gate j's record is.
-pub(crate) fn length_of(file: &[u8], j: u16) -> u16
-    ensures { λ r. ⌜ r ≡ lengthOf (now (file .entry)) j ⌝ }
-{
-    number_at(file, 6 + 4 * (j as usize))
-}
-
-// Both of a gate whose pair is there.
-pub(crate) fn offset_in(file: &[u8], j: u16) -> u16
     requires { ⌜ 8 + 4 * j ≤ length (now file) ⌝ }
     ensures { λ r. ⌜ r ≡ offsetOf (now (file .entry)) j ⌝ }
 {
     number_in(file, 4 + 4 * (j as usize))
 }
 
-pub(crate) fn length_in(file: &[u8], j: u16) -> u16
+// How long it is.
+pub(crate) fn length_of(file: &[u8], j: u16) -> u16
     requires { ⌜ 8 + 4 * j ≤ length (now file) ⌝ }
     ensures { λ r. ⌜ r ≡ lengthOf (now (file .entry)) j ⌝ }
 {
@@ -54,19 +39,8 @@ pub fn record_head(edition: Edition) -> u16
     if edition.wide { 5 } else { 3 }
 }
 
-// The delay that starts at a place.
+// The delay, which is there, that starts at a place.
 pub(crate) fn delay_at(edition: Edition, file: &[u8], at: usize) -> Tick
-    ensures { λ r. ⌜ r ≡ delayAt edition (now (file .entry)) at ⌝ }
-{
-    if edition.wide {
-        number_at(file, at) as Tick
-    } else {
-        byte_at(file, at) as Tick
-    }
-}
-
-// The same of a delay that is there.
-pub(crate) fn delay_in(edition: Edition, file: &[u8], at: usize) -> Tick
     requires { ⌜ at + delayBytes edition ≤ length (now file) ⌝ }
     ensures { λ r. ⌜ r ≡ delayAt edition (now (file .entry)) at ⌝ }
 {

@@ -16,18 +16,14 @@ mod bytes;
 
 use bytes::delay_at;
 pub use bytes::delay_bytes;
-use bytes::delay_in;
 use bytes::entries_of;
 use bytes::kind_of;
-use bytes::length_in;
 use bytes::length_of;
-use bytes::offset_in;
 use bytes::offset_of;
 pub use bytes::record_head;
 use method::Kind;
 use method::Net;
 use method::Tick;
-use numbers::byte_at;
 use numbers::number_at;
 use numbers::number_in;
 
@@ -107,14 +103,15 @@ fn inputs_of(edition: Edition, file: &[u8]) -> u16
     if held < added { 0 } else { held - added }
 }
 
-// Gate j's record. Past the end of the file it reads zeros.
+// The record of gate j, which is there: nothing is tested.
 pub fn gate_at(edition: Edition, file: &[u8], j: u16) -> GateRecord
+    requires { ⌜ Lies (recordHead edition) (now file) j ⌝ }
     ensures { λ r. ⌜ r ≡ recordOf edition (now (file .entry)) j ⌝ }
 {
     let start = offset_of(file, j);
     let head = record_head(edition);
     let second = 1 + delay_bytes(edition) as usize;
-    let kind = kind_of(byte_at(file, start as usize));
+    let kind = kind_of(file[start as usize]);
     let delay = delay_at(edition, file, start as usize + 1);
     let inertial = delay_at(edition, file, start as usize + second);
     let list = start as u32 + head as u32;
@@ -128,8 +125,7 @@ pub fn gate_at(edition: Edition, file: &[u8], j: u16) -> GateRecord
     }
 }
 
-// The same in the present edition of a gate that is there, written out for planning and evaluation, which read a record for every
-// gate: nothing is tested.
+// The same in the present edition, written out for planning and evaluation, which read a record for every gate.
 pub fn present_gate(file: &[u8], j: u16) -> GateRecord
     requires { ⌜ Lies 5 (now file) j ⌝ }
     ensures { λ r. ⌜ r ≡ recordOf edition.present (now (file .entry)) j ⌝ }
@@ -151,15 +147,8 @@ pub fn present_gate(file: &[u8], j: u16) -> GateRecord
     }
 }
 
-// Entry i of the fan-in list that starts at byte `list`.
+// Entry i, which is there, of the fan-in list that starts at byte `list`.
 pub fn fanin_at(file: &[u8], list: u32, i: u16) -> Net
-    ensures { λ r. ⌜ r .0 ≡ faninAt (now (file .entry)) list i ⌝ }
-{
-    Net(number_at(file, list as usize + 2 * (i as usize)))
-}
-
-// The same of an entry that is there, which is not tested.
-pub fn fanin_in(file: &[u8], list: u32, i: u16) -> Net
     requires { ⌜ list + 2 * i + 1 < length (now file) ⌝ }
     ensures { λ r. ⌜ r .0 ≡ faninAt (now (file .entry)) list i ⌝ }
 {
@@ -208,8 +197,8 @@ fn records_fill(file: &[u8], gates: u16, least: u16) -> bool
     let mut end = 4 + 4 * (gates as usize);
     let mut j: u16 = 0;
     while j < gates {
-        let start = offset_in(file, j) as usize;
-        let len = length_in(file, j);
+        let start = offset_of(file, j) as usize;
+        let len = length_of(file, j);
         if start != end {
             return false;
         }
@@ -244,44 +233,22 @@ fn gate_fault(edition: Edition, file: &[u8], j: u16, net: Net) -> u8
     requires { ⌜ (net .0 ≡ inputsOf edition (now file) + j) × Lies (recordHead edition) (now file) j ⌝ }
     ensures { λ r. ⌜ r ≡ firstNo (gateQuestions edition (now (file .entry)) j) ⌝ }
 {
-    let start = offset_in(file, j) as usize;
+    let start = offset_of(file, j) as usize;
     let kind = file[start];
     if 7 < kind {
         return 6;
     }
-    let gate = gate_in(edition, file, j);
+    let gate = gate_at(edition, file, j);
     if !delays_suit(edition, gate.delay, gate.inertial) {
         return 7;
     }
-    if !length_suits(edition, length_in(file, j), kind, gate.entries) {
+    if !length_suits(edition, length_of(file, j), kind, gate.entries) {
         return 8;
     }
     if !fanins_below(file, gate.list, gate.entries, net) {
         return 9;
     }
     0
-}
-
-// Gate j's record, which is there.
-fn gate_in(edition: Edition, file: &[u8], j: u16) -> GateRecord
-    requires { ⌜ Lies (recordHead edition) (now file) j ⌝ }
-    ensures { λ r. ⌜ r ≡ recordOf edition (now (file .entry)) j ⌝ }
-{
-    let start = offset_in(file, j);
-    let head = record_head(edition);
-    let second = 1 + delay_bytes(edition) as usize;
-    let kind = kind_of(file[start as usize]);
-    let delay = delay_in(edition, file, start as usize + 1);
-    let inertial = delay_in(edition, file, start as usize + second);
-    let list = start as u32 + head as u32;
-    let entries = entries_of(length_in(file, j), head);
-    GateRecord {
-        kind,
-        delay,
-        inertial,
-        list,
-        entries,
-    }
 }
 
 // Question 7.
@@ -324,7 +291,7 @@ fn fanins_below(file: &[u8], list: u32, entries: u16, net: Net) -> bool
     let own = net.0;
     let mut i: u16 = 0;
     while i < entries {
-        let fanin = fanin_in(file, list, i);
+        let fanin = fanin_at(file, list, i);
         if own <= fanin.0 {
             return false;
         }

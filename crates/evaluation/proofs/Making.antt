@@ -3,12 +3,12 @@
 -- Assumes nothing.
 use Prim.Native.Nat.{ℕ, _^_, _<_}
 use mathlib.Core.Path.{_≡_, refl, sym, ap, _∙_}
-use mathlib.Core.Bool.{Bool, true, false, not, Bool·beq, or-false, true≢false, false≢true}
+use mathlib.Core.Bool.{Bool, true, false, not, _&&_, Bool·beq, or-false, true≢false, false≢true}
 use mathlib.Core.List.{List, [], _∷_, _++_, map, map-map}
 use native.Mathlib.Omega.{arith}
 use lib.Dec.{lit<}
 use lib.ListN.{length, getD, length-map}
-use lib.Bits.{bitOr, bitXor, xor-lt}
+use lib.Bits.{bitAnd, bitOr, bitXor, and-lt, or-lt, xor-lt, xor-zero-r}
 use borrow.Author.Tests.{eqb-true}
 use Rattle.lists.specs.Tables.{every, some}
 use Rattle.method.specs.declared.Kind.{Kind}
@@ -16,7 +16,7 @@ use Rattle.method.specs.declared.Kind.the-variants.{Buf, Not, And, Nand, Or, No
 use Rattle.method.specs.Kinds.{ones, odd, gateFn, takes}
 use Rattle.method.specs.Words.{lanes, lane}
 use Rattle.method.proofs.Parity.{odd-one, odd-snoc}
-use Rattle.method.proofs.Bits.{or-lane, xor-lane, not-lane, zero-lane, pack-is}
+use Rattle.method.proofs.Bits.{and-lane, or-lane, xor-lane, not-lane, zero-lane, pack-is}
 use Rattle.evaluation.specs.declared.rows.Rule.{Rule}
 use Rattle.evaluation.specs.Steps.{SomeOf, OddOf, gateWord, mask, turned, parity, flipped, ruleOf}
 use Rattle.lists.proofs.Tabled.{map-snoc, some-snoc}
@@ -108,6 +108,22 @@ by-odd Nand bs x = absurd (false≢true x)
 by-odd Or bs x = absurd (false≢true x)
 by-odd Nor bs x = absurd (false≢true x)
 
+all-two : (a b : Bool) → a && b ≡ every (a ∷ b ∷ [])
+all-two true true = refl
+all-two true false = refl
+all-two false b = refl
+
+by-both : (k : Kind) (a b : Bool) → turned k ≡ true → xor (a && b) (xor true (flipped k)) ≡ gateFn k (a ∷ b ∷ [])
+unfolding gateFn
+by-both And a b x = xor-false (a && b) ∙ all-two a b
+by-both Nand a b x = xor-true (a && b) ∙ ap not (all-two a b)
+by-both Buf a b x = absurd (false≢true x)
+by-both Not a b x = absurd (false≢true x)
+by-both Or a b x = absurd (false≢true x)
+by-both Nor a b x = absurd (false≢true x)
+by-both Xor a b x = absurd (false≢true x)
+by-both Xnor a b x = absurd (false≢true x)
+
 -- ---- and on words
 
 mask-lane : (b : Bool) (L : ℕ) → L < lanes → lane L (mask b) ≡ b
@@ -144,3 +160,28 @@ module _ (r : Rule) (is : r ≡ ruleOf (r .kind)) where
 
   pub made-odd : r .parity ≡ true → {ws : List ℕ} {word : ℕ} → OddOf ws word → word < 2 ^ lanes → bitXor word (r .flip) ≡ gateWord (r .kind) ws
   made-odd x {ws} {word} t h = made ws word h (λ L l. rw (t .is L) (by-odd (r .kind) (map (lane L) ws) (sym parity-is ∙ x)))
+
+  -- two entries, none turned
+  pub made-either : r .parity ≡ false → r .turn ≡ 0 → (x y : ℕ) → x < 2 ^ lanes → y < 2 ^ lanes → takes (r .kind) 2 ≡ true → bitXor (bitOr x y) (r .flip) ≡ gateWord (r .kind) (x ∷ y ∷ [])
+  made-either p none x y a b e =
+      let same : bitOr (bitXor x (r .turn)) (bitXor y (r .turn)) ≡ bitOr x y = rw (none, xor-zero-r x, xor-zero-r y) in
+      made-some p (rw (← same) (some-pair (r .turn) x y)) e (or-lt lanes x y a b)
+
+  -- two entries, both turned
+  turned-not-0 : (r .turn ≡ 0 → ⊥) → turned (r .kind) ≡ true
+  turned-not-0 some = go (turned (r .kind)) refl
+    where
+      go : (b : Bool) → turned (r .kind) ≡ b → b ≡ true
+      go true e = refl
+      go false e = absurd (some (turn-is ∙ ap mask e))
+
+  pub made-both : (r .turn ≡ 0 → ⊥) → (x y : ℕ) → x < 2 ^ lanes → y < 2 ^ lanes → bitXor (bitAnd x y) (bitXor (r .turn) (r .flip)) ≡ gateWord (r .kind) (x ∷ y ∷ [])
+  unfolding gateWord
+  made-both some x y a b =
+      let t : r .turn ≡ mask true = turn-is ∙ ap mask (turned-not-0 some) in
+      let k : Kind = r .kind in
+      pack-is lanes (bitXor (bitAnd x y) (bitXor (r .turn) (r .flip))) (λ (L : ℕ). gateFn k (lane L x ∷ lane L y ∷ []))
+      (xor-lt lanes (bitAnd x y) (bitXor (r .turn) (r .flip)) (and-lt lanes x y a b) (rw (t, flip-is) (xor-lt lanes (mask true) (mask (flipped k)) (mask-word true) (mask-word (flipped k)))))
+      (λ L l.
+      xor-lane L (bitAnd x y) (bitXor (r .turn) (r .flip))
+      ∙ rw (and-lane L x y, xor-lane L (r .turn) (r .flip), t, flip-is, mask-lane true L l, mask-lane (flipped k) L l) (by-both k (lane L x) (lane L y) (turned-not-0 some)))

@@ -108,7 +108,8 @@ pub(crate) fn pair_rows(
     }
 }
 
-// The raw word of a frame from two words.
+// The raw word of a frame from two words. Where entries are turned, that some turned one is 1 means that not all are: `&` does it in
+// fewer steps. What is asked of the rule is the same at every frame, and asked before the loop by the compiler.
 fn pair_word(rule: Rule, x: u64, y: u64) -> u64
     requires { ⌜ (takes (rule .kind) 2 ≡ true) × (rule ≡ ruleOf (rule .kind)) ⌝ }
     ensures { λ r. ⌜ r ≡ gateWord (rule .kind) (x ∷ y ∷ []) ⌝ }
@@ -118,7 +119,10 @@ fn pair_word(rule: Rule, x: u64, y: u64) -> u64
     if rule.parity {
         return (x ^ y) ^ flip;
     }
-    ((x ^ turn) | (y ^ turn)) ^ flip
+    if turn == 0 {
+        return (x | y) ^ flip;
+    }
+    (x & y) ^ (turn ^ flip)
 }
 
 // Writes the raw words of a gate of any number of fan-ins from `first` on. The kind is asked before the loop, not in it.

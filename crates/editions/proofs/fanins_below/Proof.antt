@@ -19,11 +19,11 @@ abbrev μ-loop : tie.MeasureT-loop
 loop-holds : tie.Need-loop-holds Inv-loop μ-loop
 loop-holds c = (search needs, rw sub-zero)
 
-fanin-in-requires : tie.Need-fanin-in-requires Inv-loop μ-loop
-fanin-in-requires c κs = search needs
+fanin-at-requires : tie.Need-fanin-at-requires Inv-loop μ-loop
+fanin-at-requires c κs = search needs
 
 returns : tie.Need-returns Inv-loop μ-loop
-returns c = not-below _ _ _ _ (c .before .before .before .before .loop .inv .1) (c .before .before .before .loop-test .taken) (c .before .before .fanin-in .ensures) (c .if1 .taken)
+returns c = not-below _ _ _ _ (c .before .before .before .before .loop .inv .1) (c .before .before .before .loop-test .taken) (c .before .before .fanin-at .ensures) (c .if1 .taken)
 
 add-i : tie.Need-add-i Inv-loop μ-loop
 add-i c = search needs
@@ -32,7 +32,7 @@ loop-less : tie.Need-loop-less Inv-loop μ-loop
 loop-less c = search needs
 
 loop-again : tie.Need-loop-again Inv-loop μ-loop
-loop-again c = (search needs, below-next _ _ _ _ (c .before .before .before .before .loop .inv .1) (c .before .before .before .loop-test .taken) (c .before .before .fanin-in .ensures) (c .if1 .left))
+loop-again c = (search needs, below-next _ _ _ _ (c .before .before .before .before .loop .inv .1) (c .before .before .before .loop-test .taken) (c .before .before .fanin-at .ensures) (c .if1 .left))
 
 returns-2 : tie.Need-returns-2 Inv-loop μ-loop
 returns-2 c = below-end _ _ _ _ (c .before .loop .inv .1) (c .loop-test .left)
@@ -44,7 +44,7 @@ fanins-below-spec =
     Inv-loop
     μ-loop
     loop-holds
-    fanin-in-requires
+    fanin-at-requires
     returns
     add-i
     loop-less

@@ -1,5 +1,6 @@
--- `editions::gate_at` meets its contract. Each part is what a leaf function read.
+-- `editions::gate_at` meets its contract. Each part is what was read at its place.
 -- Assumes nothing.
+use mathlib.Core.Path.{refl}
 use Rattle.editions.proofs.Gated.{record-is}
 use borrow.Author.Needs.{needs}
 use Rattle.editions.proofs.gate_at.Statement.{statement}
@@ -20,11 +21,11 @@ cast-second c = search needs
 add-second : tie.Need-add-second
 add-second c = search needs
 
-cast-byte-at : tie.Need-cast-byte-at
-cast-byte-at c = search needs
+cast-kind-of : tie.Need-cast-kind-of
+cast-kind-of c = search needs
 
-byte-at-requires : tie.Need-byte-at-requires
-byte-at-requires c κs = search needs
+shared-slice-read-kind-of : tie.Need-shared-slice-read-kind-of
+shared-slice-read-kind-of c = search needs
 
 kind-of-requires : tie.Need-kind-of-requires
 kind-of-requires c κs = search needs
@@ -63,7 +64,7 @@ entries-of-requires : tie.Need-entries-of-requires
 entries-of-requires c κs = search needs
 
 returns : tie.Need-returns
-returns c = record-is _ _ _ (c .before .before .before .before .before .before .before .before .offset-of .ensures) (c .before .before .before .before .before .before .before .record-head .ensures) (c .before .before .before .before .before .before .delay-bytes .ensures) (c .before .before .before .before .kind-of .ensures) (c .before .before .before .before .before .byte-at .ensures) (c .before .before .before .delay-at .ensures) (c .before .before .delay-at2 .ensures) (c .entries-of .ensures) (c .before .length-of .ensures)
+returns c = record-is _ _ _ (c .before .before .before .before .before .before .before .before .offset-of .ensures) (c .before .before .before .before .before .before .before .record-head .ensures) (c .before .before .before .before .before .before .delay-bytes .ensures) (c .before .before .before .before .kind-of .ensures) refl (c .before .before .before .delay-at .ensures) (c .before .before .delay-at2 .ensures) (c .entries-of .ensures) (c .before .length-of .ensures)
 
 pub gate-at-spec : {M : Type 1} → statement M
 gate-at-spec =
@@ -74,8 +75,8 @@ gate-at-spec =
     delay-bytes-requires
     cast-second
     add-second
-    cast-byte-at
-    byte-at-requires
+    cast-kind-of
+    shared-slice-read-kind-of
     kind-of-requires
     cast-delay-at
     add-delay-at

@@ -25,20 +25,20 @@ add-end c = search needs
 loop-holds : tie.Need-loop-holds Inv-loop μ-loop
 loop-holds c = (search needs, rw sub-zero)
 
-offset-in-requires : tie.Need-offset-in-requires Inv-loop μ-loop
-offset-in-requires c κs = search needs
+offset-of-requires : tie.Need-offset-of-requires Inv-loop μ-loop
+offset-of-requires c κs = search needs
 
 cast-start : tie.Need-cast-start Inv-loop μ-loop
 cast-start c = search needs
 
-length-in-requires : tie.Need-length-in-requires Inv-loop μ-loop
-length-in-requires c κs = search needs
+length-of-requires : tie.Need-length-of-requires Inv-loop μ-loop
+length-of-requires c κs = search needs
 
 returns : tie.Need-returns Inv-loop μ-loop
-returns c = elsewhere _ _ _ _ _ (c .before .before .before .loop-test .taken) (c .before .before .before .before .loop .inv .1) (c .before .before .offset-in .ensures) (c .before .length-in .ensures) (c .if1 .taken)
+returns c = elsewhere _ _ _ _ _ (c .before .before .before .loop-test .taken) (c .before .before .before .before .loop .inv .1) (c .before .before .offset-of .ensures) (c .before .length-of .ensures) (c .if1 .taken)
 
 returns-2 : tie.Need-returns-2 Inv-loop μ-loop
-returns-2 c = short _ _ _ _ _ (c .before .before .before .before .loop-test .taken) (c .before .before .before .before .before .loop .inv .1) (c .before .before .before .offset-in .ensures) (c .before .before .length-in .ensures) (c .before .if1 .left) (c .if2 .taken)
+returns-2 c = short _ _ _ _ _ (c .before .before .before .before .loop-test .taken) (c .before .before .before .before .before .loop .inv .1) (c .before .before .before .offset-of .ensures) (c .before .before .length-of .ensures) (c .before .if1 .left) (c .if2 .taken)
 
 cast-end : tie.Need-cast-end Inv-loop μ-loop
 cast-end c = search needs
@@ -53,7 +53,7 @@ loop-less : tie.Need-loop-less Inv-loop μ-loop
 loop-less c = search needs
 
 loop-again : tie.Need-loop-again Inv-loop μ-loop
-loop-again c = (search needs, next _ _ _ _ _ (c .before .before .before .before .loop-test .taken) (c .before .before .before .before .before .loop .inv .1) (c .before .before .before .offset-in .ensures) (c .before .before .length-in .ensures) (c .before .if1 .left) (c .if2 .left))
+loop-again c = (search needs, next _ _ _ _ _ (c .before .before .before .before .loop-test .taken) (c .before .before .before .before .before .loop .inv .1) (c .before .before .before .offset-of .ensures) (c .before .before .length-of .ensures) (c .before .if1 .left) (c .if2 .left))
 
 returns-3 : tie.Need-returns-3 Inv-loop μ-loop
 returns-3 c = last _ _ _ _ _ (c .loop-test .left) (c .before .loop .inv .1)
@@ -67,9 +67,9 @@ records-fill-spec =
     mul-end
     add-end
     loop-holds
-    offset-in-requires
+    offset-of-requires
     cast-start
-    length-in-requires
+    length-of-requires
     returns
     returns-2
     cast-end

@@ -22,7 +22,7 @@ loop-holds : tie.Need-loop-holds Inv-loop μ-loop
 loop-holds c = (search needs, rw sub-zero)
 
 gate-at-requires : tie.Need-gate-at-requires Inv-loop μ-loop
-gate-at-requires c κs = search needs
+gate-at-requires c κs = c .before .before .before .pre (c .before .loop .j) (c .loop-test .taken)
 
 returns : tie.Need-returns Inv-loop μ-loop
 returns c = delay-high _ _ _ _ _ (c .before .before .before .before .loop .inv .1) (c .before .before .before .loop-test .taken) (c .before .before .gate-at .ensures) (c .if1 .taken)

@@ -23,7 +23,7 @@ loop-holds : tie.Need-loop-holds Inv-loop μ-loop
 loop-holds c = pairing-none _ _ _ _ _
 
 gate-at-requires : tie.Need-gate-at-requires Inv-loop μ-loop
-gate-at-requires c κs = search needs
+gate-at-requires c κs = (c .before .before .before .before) .pre .each _ (c .loop-test .taken) .lies
 
 record-head-requires : tie.Need-record-head-requires Inv-loop μ-loop
 record-head-requires c κs = search needs

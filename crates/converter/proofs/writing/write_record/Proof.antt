@@ -7,7 +7,7 @@ use Rattle.converter.proofs.writing.write_record.Statement.{statement}
 use Rattle.converter.proofs.writing.write_record.Tie as tie
 
 gate-at-requires : tie.Need-gate-at-requires
-gate-at-requires c κs = search needs
+gate-at-requires c κs = let s = c .before .before in s .pre .0 .each (s .args .j) (omega arith) .lies
 
 put-head-requires : tie.Need-put-head-requires
 put-head-requires c κs =
@@ -21,7 +21,7 @@ add-list : tie.Need-add-list
 add-list c = omega (arith, c .before .before .before .before .before .before .before .before .pre .1, head-few _ (c .record-head .ensures))
 
 copy-fanins-requires : tie.Need-copy-fanins-requires
-copy-fanins-requires c κs = search needs
+copy-fanins-requires c κs = let s = c .before .before .before .before .before .before .before .before .before in rw (c .before .before .before .before .before .before .gate-at .ensures) (s .pre .0 .each (s .args .j) (omega arith) .listed)
 
 mul-result : tie.Need-mul-result
 mul-result c = omega (arith, record-few _ _ _ (c .before .before .before .before .before .before .before .before .before .before .gate-at .ensures) ((c .before .before .before .before .before .before .before .before .before .before .before .before .before .pre .0 .each _ (omega arith)) .entries))

@@ -1,9 +1,9 @@
 -- `evaluation::rows::pair_word` meets its contract. By the rule, of two words.
 -- Assumes nothing.
 use native.Mathlib.Omega.{arith}
-use lib.Bits.{bitXor, or-lt, xor-lt}
+use lib.Bits.{xor-lt}
 use Rattle.method.specs.Words.{lanes}
-use Rattle.evaluation.proofs.Making.{some-pair, odd-pair, made-some, made-odd}
+use Rattle.evaluation.proofs.Making.{odd-pair, made-odd, made-either, made-both}
 use Rattle.evaluation.proofs.rows.pair_word.Statement.{statement}
 use Rattle.evaluation.proofs.rows.pair_word.Tie as tie
 
@@ -14,10 +14,13 @@ returns c =
 
 returns-2 : tie.Need-returns-2
 returns-2 c =
-    let s = c .before .args in
-    let t = s .rule .turn in
-    made-some (s .rule) (c .before .pre .1) (c .if1 .left) (some-pair t (s .x) (s .y)) (c .before .pre .0)
-    (or-lt lanes (bitXor (s .x) t) (bitXor (s .y) t) (xor-lt lanes (s .x) t (omega arith) (omega arith)) (xor-lt lanes (s .y) t (omega arith) (omega arith)))
+    let s = c .before .before .args in
+    made-either (s .rule) (c .before .before .pre .1) (c .before .if1 .left) (c .if2 .taken) (s .x) (s .y) (omega arith) (omega arith) (c .before .before .pre .0)
+
+returns-3 : tie.Need-returns-3
+returns-3 c =
+    let s = c .before .before .args in
+    made-both (s .rule) (c .before .before .pre .1) (c .if2 .left) (s .x) (s .y) (omega arith) (omega arith)
 
 pub pair-word-spec : {M : Type 1} → statement M
-pair-word-spec = tie.close (tie.spec returns returns-2)
+pair-word-spec = tie.close (tie.spec returns returns-2 returns-3)
