@@ -11,7 +11,7 @@ use Rattle.looks.specs.declared.Seen.the-variants.{Level}
 use Rattle.looks.specs.declared.Sight as code
 use Rattle.looks.specs.Look.{seenOnPaper}
 use Rattle.looks.specs.Sight.{endOnPaper, sightOnPaper}
-use Rattle.answers.specs.Numbers.{Numbers, Numbered, numbers, numbered, inNumbers, outcomeIn, endNumber, sightNumbers}
+use Rattle.answers.specs.Numbers.{Numbers, numbers, numbered, inNumbers, outcomeIn, endNumber, sightNumbers}
 
 level-number : (level : Bool) → boolByte level ≡ cond level 1 0
 level-number true = refl

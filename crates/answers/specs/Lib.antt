@@ -1,2 +1,3 @@
--- The answers of the calls in numbers.
+-- The answers of the calls in numbers (Numbers), and why 0 can stand for no end (Ends).
 pub mod Numbers
+pub mod Ends

@@ -3,7 +3,7 @@
 use mathlib.Core.Path.{sym, ap}
 use Rattle.looks.specs.declared.Counted.{Counted}
 use Rattle.looks.specs.Look.{countedOnPaper}
-use Rattle.answers.specs.Numbers.{Numbers, inNumbers, oneNumber}
+use Rattle.answers.specs.Numbers.{inNumbers, oneNumber}
 use borrow.Author.Needs.{needs}
 use Rattle.answers.proofs.give_changes.Statement.{statement}
 use Rattle.answers.proofs.give_changes.Tie as tie

@@ -3,7 +3,7 @@
 use mathlib.Core.Path.{sym, ap}
 use Rattle.converter.specs.declared.Conversion.{Conversion}
 use Rattle.converter.specs.Convert.{onPaper}
-use Rattle.answers.specs.Numbers.{Numbers, inNumbers, oneNumber}
+use Rattle.answers.specs.Numbers.{inNumbers, oneNumber}
 use borrow.Author.Needs.{needs}
 use Rattle.answers.proofs.give_length.Statement.{statement}
 use Rattle.answers.proofs.give_length.Tie as tie

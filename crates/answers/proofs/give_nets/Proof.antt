@@ -3,7 +3,7 @@
 use mathlib.Core.Path.{sym, ap}
 use Rattle.editions.specs.declared.Reading.{Reading}
 use Rattle.circuit.specs.Questions.{onPaper}
-use Rattle.answers.specs.Numbers.{Numbers, inNumbers, netNumbers}
+use Rattle.answers.specs.Numbers.{inNumbers, netNumbers}
 use borrow.Author.Needs.{needs}
 use Rattle.answers.proofs.give_nets.Statement.{statement}
 use Rattle.answers.proofs.give_nets.Tie as tie

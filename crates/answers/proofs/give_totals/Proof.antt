@@ -3,7 +3,7 @@
 use mathlib.Core.Path.{sym, ap}
 use Rattle.limiting.specs.declared.Planning.{Planning}
 use Rattle.limiting.specs.Planned.{onPaper}
-use Rattle.answers.specs.Numbers.{Numbers, inNumbers, totalNumbers}
+use Rattle.answers.specs.Numbers.{inNumbers, totalNumbers}
 use borrow.Author.Needs.{needs}
 use Rattle.answers.proofs.give_totals.Statement.{statement}
 use Rattle.answers.proofs.give_totals.Tie as tie

@@ -3,7 +3,7 @@
 use mathlib.Core.Path.{sym, ap}
 use Rattle.expectations.specs.declared.Marking.{Marking}
 use Rattle.expectations.specs.Verdict.{onPaper}
-use Rattle.answers.specs.Numbers.{Numbers, inNumbers, verdictNumbers}
+use Rattle.answers.specs.Numbers.{inNumbers, verdictNumbers}
 use borrow.Author.Needs.{needs}
 use Rattle.answers.proofs.give_verdict.Statement.{statement}
 use Rattle.answers.proofs.give_verdict.Tie as tie

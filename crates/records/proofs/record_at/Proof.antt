@@ -1,9 +1,5 @@
 -- `record_at` meets its contract: each field by its own bytes.
 -- Assumes nothing.
-use mathlib.Core.Path.{ap, _∙_}
-use Prim.Native.Nat.{ℕ}
-use Rattle.expectations.specs.declared.Expectation.{Expectation}
-use Rattle.records.specs.Records.{recordAt}
 use Rattle.records.proofs.Recorded.{record-by}
 use borrow.Author.Needs.{needs}
 use Rattle.records.proofs.record_at.Statement.{statement}

@@ -1,7 +1,7 @@
 -- `records_of` meets its contract. After k records the list begins with them.
 -- Assumes nothing.
 use Prim.Native.Nat.{_-_, _≤_}
-use mathlib.Core.Path.{_≡_, refl, ap, _∙_}
+use mathlib.Core.Path.{_≡_, refl, _∙_}
 use native.Mathlib.Omega.{arith}
 use lib.ListN.{length, length-set, take}
 use Rattle.records.specs.Records.{mostRecords, firstRecords}
