@@ -66,7 +66,7 @@ module _ (di : ℕ) (ts : List ℕ) (st : startAndRise ts ≡ true) (k from : �
 -- ---- the frame of a fan-in at one of the gate's times: the frame before, or the next
 
 module _ (ss : List ℕ) (s : Starts ss) (from d time : ℕ) (low : from ≤ lastFrame ss (time - d)) (high : lastFrame ss (time - d) ≤ from + 1) where
-  pub stays-last : length ss ≤ from + 1 → from ≡ lastFrame ss (time - d)
+  stays-last : length ss ≤ from + 1 → from ≡ lastFrame ss (time - d)
   stays-last h = omega (arith, last-within ss (time - d) s)
 
   stays : from + 1 < length ss → time < getD ss (from + 1) 0 + d → from ≡ lastFrame ss (time - d)
@@ -91,12 +91,21 @@ module _ (ss : List ℕ) (s : Starts ss) (from d time : ℕ) (low : from ≤ las
         | inr m ↦ omega arith
       ]
 
-  pub steps : from + 1 < length ss → from + cond (leb (getD ss (from + 1) 0 + d) time) 1 0 ≡ lastFrame ss (time - d)
-  steps h =
-      elim (order (getD ss (from + 1) 0 + d) time) [
-        | inl b ↦ rw (le-leb (getD ss (from + 1) 0 + d) time b) (goes-on h b)
-        | inr b ↦ rw (lt-leb (getD ss (from + 1) 0 + d) time b) (omega (arith, stays h b))
-      ]
+  -- `next` is the frame behind `from`, or `from` where that is the last
+  module _ {next : ℕ} (more : from + 1 < length ss → next ≡ from + 1) (last : length ss ≤ from + 1 → next ≡ from) where
+    pub next-begun : getD ss next 0 + d ≤ time → next ≡ lastFrame ss (time - d)
+    next-begun b =
+        elim (order (length ss) (from + 1)) [
+          | inl h ↦ last h ∙ stays-last h
+          | inr h ↦ more h ∙ goes-on h (rw (more h) at b)
+        ]
+
+    pub next-later : time < getD ss next 0 + d → from ≡ lastFrame ss (time - d)
+    next-later b =
+        elim (order (length ss) (from + 1)) [
+          | inl h ↦ stays-last h
+          | inr h ↦ stays h (rw (more h) at b)
+        ]
 
 -- ---- from one of the gate's times to the next
 

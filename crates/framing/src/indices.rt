@@ -149,15 +149,24 @@ fn index_column(
 }
 
 // How many frames of the fan-in behind frame 0 have begun at this time less the delay, which is also the number of the last
-// that has: `from`, or one more. A count, which goes straight into the next turn's place.
+// that has: `from`, or one more. Which of the two is chosen without a jump, which would often be guessed wrong.
 fn begun_by(fanin: &[Tick], delay: Tick, from: usize, time: Time) -> usize
     requires { ⌜ Span (now fanin) × (delay ≤ mostDelay) ⌝ }
     requires { ⌜ (from ≤ lastFrame (now fanin) (time .0 - delay)) × (lastFrame (now fanin) (time .0 - delay) ≤ from + 1) ⌝ }
     ensures { λ r. ⌜ r ≡ lastFrame (now (fanin .entry)) (time .0 - delay) ⌝ }
 {
-    let next = from + 1;
-    if fanin.len() <= next {
-        return from;
+    let next = behind(from, fanin.len());
+    if fanin[next] + delay <= time.0 {
+        next
+    } else {
+        from
     }
-    from + slices::not_above(fanin[next] + delay, time.0)
+}
+
+// The frame behind this one, or this one where it is the last.
+fn behind(frame: usize, frames: usize) -> usize
+    requires { ⌜ frame < frames ⌝ }
+    ensures { λ r. ⌜ (frame + 1 < frames → r ≡ frame + 1) × (frames ≤ frame + 1 → r ≡ frame) × (r < frames) ⌝ }
+{
+    if frame + 1 < frames { frame + 1 } else { frame }
 }
