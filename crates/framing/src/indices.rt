@@ -149,7 +149,7 @@ fn index_column(
 }
 
 // How many frames of the fan-in behind frame 0 have begun at this time less the delay, which is also the number of the last
-// that has: `from`, or one more. Which of the two is chosen without a jump, which would often be guessed wrong.
+// that has: `from`, or one more. Written so that the choice needs no jump, which would often be guessed wrong.
 fn begun_by(fanin: &[Tick], delay: Tick, from: usize, time: Time) -> usize
     requires { ⌜ Span (now fanin) × (delay ≤ mostDelay) ⌝ }
     requires { ⌜ (from ≤ lastFrame (now fanin) (time .0 - delay)) × (lastFrame (now fanin) (time .0 - delay) ≤ from + 1) ⌝ }

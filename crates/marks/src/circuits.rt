@@ -1,10 +1,10 @@
 // A case: a circuit with its change times, its words and the expectations, and Mark on them.
 ghost use Prim.Native.Nat.{_≤_};
-use crate::lending::mark_first;
-use crate::records::list_of;
-use crate::records::show_marking;
+use crate::listing::list_of;
+use crate::listing::show_marking;
 use marking::Expectation;
 use method::Tick;
+use records::mark_first;
 use testbench::Case;
 use testbench::Head;
 use testbench::after_count;
@@ -74,7 +74,7 @@ fn show_line(
     changes: [Tick; 400],
     before: [u64; 400],
     after: [u64; 400],
-    list: [Expectation; 12],
+    list: [Expectation; 1024],
     count: usize,
 ) -> bool {
     mark_case(
@@ -97,7 +97,7 @@ fn mark_case<'a>(
     changes: &'a [Tick],
     before: &'a [u64],
     after: &'a [u64],
-    list: [Expectation; 12],
+    list: [Expectation; 1024],
     count: usize,
 )
     requires { ⌜ count ≤ 12 ⌝ }
@@ -128,7 +128,7 @@ fn mark_in<'a>(
     changes: &'a [Tick],
     before: &'a [u64],
     after: &'a [u64],
-    list: [Expectation; 12],
+    list: [Expectation; 1024],
     count: usize,
     mut d: [u16; 400],
     mut t: [Tick; 2100],

@@ -10,8 +10,7 @@
 // The program stops at the end of the input. At a case that is cut short and at one that its buffers do not hold it prints
 // `cut` and stops, and so it does where it cannot read or write on, which standard error then says.
 mod circuits;
-mod lending;
-mod records;
+mod listing;
 
 use circuits::circuit_case;
 use testbench::show_cut;

@@ -1,6 +1,6 @@
 -- `begun_by` meets its contract: the frame behind `from` is the last where it has begun, less the delay, and else `from` is.
 -- Assumes nothing.
-use Prim.Native.Nat.{_+_, _-_}
+use Prim.Native.Nat.{_-_}
 use native.Mathlib.Omega.{arith}
 use denote.Ref.{now}
 use Rattle.method.proofs.Rising.{Starts, test-starts}

@@ -2,8 +2,8 @@
 -- Assumes nothing.
 use Prim.Native.Nat.{_-_}
 use borrow.Author.Needs.{needs}
-use Rattle.marks.proofs.records.list_of.Statement.{statement}
-use Rattle.marks.proofs.records.list_of.Tie as tie
+use Rattle.marks.proofs.listing.list_of.Statement.{statement}
+use Rattle.marks.proofs.listing.list_of.Tie as tie
 
 abbrev Inv-loop : tie.InvT-loop
 Inv-loop bytes list₀ k₀ list k = Unit

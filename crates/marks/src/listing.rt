@@ -8,9 +8,9 @@ use testbench::show_number;
 use testbench::show_refused;
 use testbench::tick_at_byte;
 
-// The records in the bytes; of those behind the end every number is 0.
-pub(crate) fn list_of(bytes: &[u8]) -> [Expectation; 12] {
-    let mut list = [expectation_at(bytes, 0); 12];
+// The twelve records in the bytes, where those behind the end have every number 0; the first again in all places behind.
+pub(crate) fn list_of(bytes: &[u8]) -> [Expectation; 1024] {
+    let mut list = [expectation_at(bytes, 0); 1024];
     let mut k = 1;
     while k < 12 {
         list[k] = expectation_at(bytes, 12 * k);
