@@ -76,8 +76,8 @@ module _ (from to : Edition) (file area : List ℕ) where
       joined-rest = joined ∙ rw read-none
 
       -- what the function that asks 23 asks for
-      pub lie : (j : ℕ) → j < gates → Lies (recordHead from) file j
-      lie j l = gate-lies from file (all .head) j (omega (arith, gates-are from file read-yes))
+      pub gates-lie : (j : ℕ) → j < gates → Lies (recordHead from) file j
+      gates-lie j l = gate-lies from file (all .head) j (omega (arith, gates-are from file read-yes))
 
       pub no-10 : (length area ≡ areaLength → ⊥) → outcome (onPaper (C.Refused 10)) area ≡ convertedBy from to file area
       unfolding convertedBy onPaper

@@ -3,12 +3,12 @@
 use Prim.Native.Nat.{ℕ, zero, suc, _+_, _*_, _<_, _≤_}
 use mathlib.Core.Path.{_≡_, refl}
 use mathlib.Core.List.{List}
-use mathlib.Core.Bool.{Bool, true, false, _&&_, false≢true}
+use mathlib.Core.Bool.{Bool, true, _&&_}
 use native.Mathlib.Omega.{arith}
 use lib.ListN.{length}
 use lib.Dec.{leb, eqb}
 use borrow.Author.Tests.{leb-true, eqb-true}
-use Rattle.lists.proofs.Choices.{here-or-later}
+use Rattle.lists.proofs.Choices.{and-left, and-right, here-or-later}
 use Rattle.method.specs.Kinds.{takes}
 use Rattle.method.specs.declared.Kind.{Kind}
 use Rattle.editions.specs.declared.Edition.{Edition}
@@ -19,31 +19,29 @@ use Rattle.editions.specs.Lies.{Lies}
 use Rattle.editions.proofs.Widths.{head-of-five}
 use Rattle.editions.proofs.Accepted.{Head, GatePassed}
 
-both : (a b : Bool) → a && b ≡ true → (a ≡ true) × (b ≡ true)
-both true b e = (refl, e)
-both false true e = absurd (false≢true e)
-both false false e = absurd (false≢true e)
-
 -- what question 5 leaves: the end of the records before is within the file, and so is each record
 fills-end : (least : ℕ) (file : List ℕ) (n j end : ℕ) → fills least file n j end ≡ true → end ≤ length file
 unfolding fills
 fills-end least file zero j end e = omega (arith, eqb-true end (length file) e)
 fills-end least file (suc n) j end e =
     let rest : Bool = fills least file n (suc j) (offsetOf file j + lengthOf file j) in
-    let p = both (eqb (offsetOf file j) end) (leb least (lengthOf file j) && rest) e in
-    let q = both (leb least (lengthOf file j)) rest (p .1) in
-    omega (arith, eqb-true (offsetOf file j) end (p .0), fills-end least file n (suc j) (offsetOf file j + lengthOf file j) (q .1))
+    let more = and-right (eqb (offsetOf file j) end) (leb least (lengthOf file j) && rest) e in
+    omega (arith, eqb-true (offsetOf file j) end (and-left (eqb (offsetOf file j) end) (leb least (lengthOf file j) && rest) e), fills-end least file n (suc j) (offsetOf file j + lengthOf file j) (and-right (leb least (lengthOf file j)) rest more))
 
 fills-each : (least : ℕ) (file : List ℕ) (n j end : ℕ) → fills least file n j end ≡ true → (k : ℕ) → j ≤ k → k < j + n → 8 + 4 * k ≤ length file → Lies least file k
 unfolding fills
 fills-each least file zero j end e k a b p = absurd (omega arith)
 fills-each least file (suc n) j end e k a b pair =
     let rest : Bool = fills least file n (suc j) (offsetOf file j + lengthOf file j) in
-    let p = both (eqb (offsetOf file j) end) (leb least (lengthOf file j) && rest) e in
-    let q = both (leb least (lengthOf file j)) rest (p .1) in
+    let more = and-right (eqb (offsetOf file j) end) (leb least (lengthOf file j) && rest) e in
+    let later = and-right (leb least (lengthOf file j)) rest more in
     here-or-later (λ (k : ℕ). 8 + 4 * k ≤ length file → Lies least file k) j k a
-    (λ there. record { pair = there; long = leb-true least (lengthOf file j) (q .0); inside = fills-end least file n (suc j) (offsetOf file j + lengthOf file j) (q .1) })
-    (λ h. fills-each least file n (suc j) (offsetOf file j + lengthOf file j) (q .1) k h (omega arith)) pair
+    (λ there. record {
+      pair = there;
+      long = leb-true least (lengthOf file j) (and-left (leb least (lengthOf file j)) rest more);
+      inside = fills-end least file n (suc j) (offsetOf file j + lengthOf file j) later;
+    })
+    (λ h. fills-each least file n (suc j) (offsetOf file j + lengthOf file j) later k h (omega arith)) pair
 
 -- each gate of a file that passes questions 1 to 5
 pub gate-lies : (e : Edition) (file : List ℕ) → Head e file → (j : ℕ) → j < gatesOf file → Lies (recordHead e) file j
@@ -55,7 +53,7 @@ pub list-lies : (e : Edition) (file : List ℕ) (j : ℕ) → Lies (recordHead e
 unfolding recordOf lengthSuits
 list-lies e file j l kind suits =
     let m : ℕ = entriesOf e file j in
-    omega (arith, eqb-true (lengthOf file j) (recordLength e m) (both (eqb (lengthOf file j) (recordLength e m)) (takes kind m) suits .0), l .inside)
+    omega (arith, eqb-true (lengthOf file j) (recordLength e m) (and-left (eqb (lengthOf file j) (recordLength e m)) (takes kind m) suits), l .inside)
 
 module _ (file : List ℕ) (j : ℕ) (h : Head present file) (l : j < gatesOf file) where
   pub present-lies : Lies 5 file j

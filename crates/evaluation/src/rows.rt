@@ -109,7 +109,7 @@ pub(crate) fn pair_rows(
 }
 
 // The raw word of a frame from two words. Where entries are turned, that some turned one is 1 means that not all are: `&` does it in
-// fewer steps. What is asked of the rule is the same at every frame, and asked before the loop by the compiler.
+// fewer steps. What is asked of the rule is the same at every frame, so it can be asked before the loop.
 fn pair_word(rule: Rule, x: u64, y: u64) -> u64
     requires { ⌜ (takes (rule .kind) 2 ≡ true) × (rule ≡ ruleOf (rule .kind)) ⌝ }
     ensures { λ r. ⌜ r ≡ gateWord (rule .kind) (x ∷ y ∷ []) ⌝ }

@@ -9,6 +9,7 @@ use lib.Dec.{leb, eqb}
 use native.Mathlib.Omega.{arith}
 use borrow.Author.Tests.{eq-eqb, ne-eqb, leb-true}
 use Rattle.lists.specs.Tables.{tabulate, tabulateFrom}
+use Rattle.lists.proofs.Choices.{and-right}
 use Rattle.lists.proofs.Tabled.{tabulate-snoc}
 use Rattle.numbers.specs.Numbers.{byteAt, numberAt}
 use Rattle.expectations.specs.declared.Expectation.{Expectation}
@@ -23,14 +24,9 @@ pub suits-by : (bytes : List ℕ) → length bytes % recordLength ≡ 0 → leb 
 unfolding recordsSuit
 suits-by bytes whole = sym (ap (λ (b : Bool). b && leb (recordCount bytes) mostRecords) (eq-eqb (length bytes % recordLength) 0 whole))
 
-second : (a b : Bool) → a && b ≡ true → b ≡ true
-second true b e = e
-second false true e = refl
-second false false e = e
-
 pub suits-count : (bytes : List ℕ) → recordsSuit bytes ≡ true → recordCount bytes ≤ mostRecords
 unfolding recordsSuit
-suits-count bytes e = leb-true (recordCount bytes) mostRecords (second (eqb (length bytes % recordLength) 0) (leb (recordCount bytes) mostRecords) e)
+suits-count bytes e = leb-true (recordCount bytes) mostRecords (and-right (eqb (length bytes % recordLength) 0) (leb (recordCount bytes) mostRecords) e)
 
 -- ---- one record more
 pub records-none : (bytes : List ℕ) → [] ≡ firstRecords bytes 0

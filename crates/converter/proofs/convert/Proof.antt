@@ -1,6 +1,6 @@
 -- `converter::convert` meets its contract. At each return the tests that led there pick the ladder's case.
 -- Assumes nothing.
-use Rattle.converter.proofs.Asking.{lie, refused-read, no-10, no-23, ready, written-all}
+use Rattle.converter.proofs.Asking.{gates-lie, refused-read, no-10, no-23, ready, written-all}
 use borrow.Author.Needs.{needs}
 use Rattle.converter.proofs.convert.Statement.{statement}
 use Rattle.converter.proofs.convert.Tie as tie
@@ -18,7 +18,7 @@ returns : tie.Need-returns
 returns c = no-10 _ _ _ _ (c .before .before .before .before .read .ensures) (c .before .before .inputs .given .1) (c .if1 .taken)
 
 delays-up-to-requires : tie.Need-delays-up-to-requires
-delays-up-to-requires c κs = lie ((c .before .before .before .before .before .before .before) .args .from) ((c .before .before .before .before .before .before .before) .args .to) ((c .before .before .before .before .before .before .before) .args .file .now) ((c .before .before .before .before .before .before .before) .args .area .now) (c .before .before .before .before .read .ensures) (c .before .before .inputs .given .1)
+delays-up-to-requires c κs = gates-lie ((c .before .before .before .before .before .before .before) .args .from) ((c .before .before .before .before .before .before .before) .args .to) ((c .before .before .before .before .before .before .before) .args .file .now) ((c .before .before .before .before .before .before .before) .args .area .now) (c .before .before .before .before .read .ensures) (c .before .before .inputs .given .1)
 
 returns-2 : tie.Need-returns-2
 returns-2 c = no-23 _ _ _ _ (c .before .before .before .before .before .before .read .ensures) (c .before .before .before .before .inputs .given .1) (c .before .before .if1 .left) (c .before .delays-up-to .ensures) (c .if2 .taken)
