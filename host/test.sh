@@ -6,7 +6,11 @@ cd "$(dirname "$0")/.."
 build=$(mktemp -d)
 trap 'rm -rf "$build"' EXIT
 
-rt staticlib export | tail -n 1
+if ! rt staticlib export > "$build/log" 2>&1; then
+    cat "$build/log"
+    exit 1
+fi
+tail -n 1 "$build/log"
 "${CC:-cc}" -std=c99 -Wall -Wextra -pedantic -Werror -O2 -Ihost/include host/example.c target/staticlib/libexport.a -o "$build/example"
 answer=$("$build/example")
 if [ "$answer" != passed ]; then
