@@ -1,4 +1,5 @@
 // The charge call: a circuit is run, and the charge that its kept changes draw in a lane is added up.
+#![tactic(auto)]
 ghost use Rattle.std.specs.Prelude.{◌≡◌};
 ghost use Rattle.lists.specs.Outcome.{outcome};
 ghost use Rattle.method.specs.WordLists.{word_lists};

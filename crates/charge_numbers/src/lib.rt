@@ -1,4 +1,5 @@
 // Loads as plain numbers, a byte and two floats a net, and the charge call on them.
+#![tactic(auto)]
 ghost use Rattle.std.specs.Prelude.{◌≡◌, ◌≤◌, min, length};
 ghost use Rattle.lists.specs.Outcome.{outcome};
 ghost use Rattle.method.specs.WordLists.{word_lists};

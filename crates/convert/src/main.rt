@@ -1,6 +1,7 @@
 // The program that turns a circuit file into the other edition: it reads a file from standard input and writes it in the edition
 // that it is not of, or `refused` and a number. Standard error says which way it went. Where the input cannot be read it writes
 // nothing, and standard error says why.
+#![tactic(auto)]
 use converter::Conversion;
 
 // Offset and length of a record add up to 131,070 at most, so a longer file is refused; one byte more is read, which is enough to

@@ -1,4 +1,5 @@
 // The circuit file in its two editions: questions 1 to 9, and a gate's record. One reader serves both.
+#![tactic(auto)]
 ghost use Rattle.std.specs.Prelude.{◌≡◌, ℕ, ◌+◌, ◌*◌, ◌≤◌, ◌<◌, length};
 ghost use Rattle.lists.specs.Ladder.{first_no, between};
 ghost use Rattle.lists.specs.Tables.{tabulate, all_below};

@@ -1,5 +1,6 @@
 // The calls as C functions, over plain numbers and slices: a slice is a pointer and a length. Each answers 0, with the numbers of its
 // answer in a lent array; or the number of the first "no", and leaves that array as it was. `host/include/mazhorukku.h` has them in C.
+#![tactic(auto)]
 ghost use Rattle.std.specs.Prelude.{◌≡◌};
 ghost use Rattle.method.specs.Areas.{areas as planned};
 ghost use Rattle.method.specs.WordLists.{word_lists};

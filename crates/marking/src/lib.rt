@@ -1,4 +1,5 @@
 // Mark: a circuit is run, and the run is held against a list of expectations.
+#![tactic(auto)]
 ghost use Rattle.std.specs.Prelude.{◌≡◌};
 ghost use Rattle.lists.specs.Outcome.{outcome};
 ghost use Rattle.method.specs.WordLists.{word_lists};

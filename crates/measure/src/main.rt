@@ -3,6 +3,7 @@
 // fan-in total, the last potential time and the lengths of the areas, or `refused` and a number: 0 where the input is not whole,
 // as the wave program says, and else what Size answers under the largest limit. Where the input cannot be read it prints nothing,
 // and standard error says why.
+#![tactic(auto)]
 ghost use Rattle.std.specs.Prelude.{◌<◌, ◌≤◌};
 
 mod print;

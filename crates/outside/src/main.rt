@@ -15,6 +15,7 @@
 // number is 0 if the vector has under 4 bytes or is shorter than its circuit, 11 if what stands behind the circuit is longer or
 // shorter than said, and else Run's. The program stops at the end of the stream; where that lies within a vector, and where it
 // cannot read or write on, which standard error then says, it prints `cut` and stops.
+#![tactic(auto)]
 ghost use Rattle.std.specs.Prelude.{◌<◌, ◌≤◌};
 
 mod nets;

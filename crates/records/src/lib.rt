@@ -1,4 +1,5 @@
 // Expectations as bytes, records of twelve, and Mark on them. An inner crate: its functions ask their caller for what they need.
+#![tactic(auto)]
 ghost use Rattle.std.specs.Prelude.{◌≡◌, ◌≤◌, take};
 ghost use Rattle.records.specs.Records.{most_records, time_at, record_at, first_records, records_suit};
 

@@ -1,6 +1,7 @@
 // Standard input and standard output of the programs. A call that a signal interrupts, or that would have to wait on a
 // non-blocking descriptor, is made again. Where one fails, a line on standard error says so and why. C's calls promise
 // lengths only, so nothing is promised of the bytes.
+#![tactic(auto)]
 mod input;
 mod output;
 

@@ -12,6 +12,7 @@
 // its halves, and word k of the values in each of its four quarters. A sum of numbers starts at 0, and each number x takes it to
 // (17 * sum + x + 1) % 65521. Of the times it takes the two halves of each, of the values the four quarters of each word, the
 // lowest first.
+#![tactic(auto)]
 mod areas;
 mod circuits;
 mod head;

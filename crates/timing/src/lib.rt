@@ -1,5 +1,6 @@
 // For the benchmark alone, and no part of the product: evaluation by itself, on a plan that stands in the areas. Unlike a call it has a
 // `requires`, which its caller has to keep.
+#![tactic(auto)]
 ghost use Rattle.std.specs.Prelude.{◌≡◌, length};
 ghost use Rattle.lists.specs.Areas.{padded};
 ghost use Rattle.method.specs.WordLists.{word_lists, lengths_of};

@@ -1,5 +1,6 @@
 // The wave program: reads a circuit and its words from standard input, and prints lane 0 of each net. Where the input cannot
 // be read it prints nothing, and standard error says why.
+#![tactic(auto)]
 use waveform::Printing;
 
 // One byte more than an input may have is read, which is enough to tell.
