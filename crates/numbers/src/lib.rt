@@ -1,5 +1,6 @@
 // Numbers as bytes, the lowest byte first, at any place: past the end of the bytes they are 0.
 #![tactic(auto)]
+
 ghost use Rattle.std.specs.Prelude.{◌≡◌, ◌+◌, ◌<◌, length};
 ghost use Rattle.numbers.specs.Numbers.{byte_at, number_at, word_at};
 

@@ -1,5 +1,6 @@
 // Storing and reading in a lent area, a search in a row of numbers, tests, and the later of two times.
 #![tactic(auto)]
+
 ghost use Rattle.std.specs.Prelude.{◌≡◌, cond, ◌+◌, max, leb, drop, get_or};
 ghost use Rattle.std.proofs.lemmas.List.Edits.{sets};
 ghost use Rattle.lists.specs.Ladder.{between};

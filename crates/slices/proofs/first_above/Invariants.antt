@@ -1,0 +1,14 @@
+-- `first_above` meets its contract: the search stands at place k, all numbers before it from `from` on being at most the limit.
+use Prim.Native.Nat.{◌+◌, ◌-◌}
+use mathlib.Core.Path.{◌≡◌, refl}
+use lib.ListN.{length, drop}
+use Rattle.lists.specs.Front.{leading}
+use Rattle.lists.proofs.Leading.{search_on, search_stop, search_end}
+use borrow.Author.Rules.{rules}
+use Rattle.slices.proofs.first_above.Given as goal
+
+abbrev pub invariant-loop-k : goal.invariant-loop-k
+invariant-loop-k l = l.from + leading l.limit (drop l.from l.row) ≡ l.k + leading l.limit (drop l.k l.row)
+
+abbrev pub decreases-loop-k : goal.decreases-loop-k
+decreases-loop-k l = length l.row - l.k
