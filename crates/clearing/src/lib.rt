@@ -1,5 +1,6 @@
 // Lent areas set to zeros: a function for each type of their entries, and one for the four areas that hold a plan.
 #![tactic(auto)]
+
 ghost use Rattle.std.specs.Prelude.{◌≡◌};
 ghost use Rattle.lists.specs.Areas.{cleared};
 ghost use Rattle.method.specs.Areas.{areas, all_cleared};

@@ -1,6 +1,7 @@
 // Text, put into a buffer from a place on. Each function answers the place behind what it wrote; past the buffer's end
 // nothing is written.
 #![tactic(auto)]
+
 ghost use Rattle.std.specs.Prelude.{[], ◌∷◌, ◌≤◌};
 ghost use Rattle.text.specs.Text.{decimal, digit_at, newline, refusal, frame_text};
 ghost use Rattle.text.specs.Wrote.{Wrote};

@@ -1,5 +1,6 @@
 // 64 lanes in a word: the bit of a lane, and the inertial filter over the words of a net's frames.
 #![tactic(auto)]
+
 ghost use Rattle.std.specs.Prelude.{◌≡◌, ◌+◌, ◌<◌, ◌≤◌, min, length, get_or, take, drop};
 ghost use Rattle.method.specs.Words as bits;
 ghost use Rattle.words.specs.Filtered.{filtered_words};

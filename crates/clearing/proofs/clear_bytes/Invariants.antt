@@ -1,0 +1,13 @@
+-- `clear_bytes` meets its contract: after b turns the first b bytes are 0 and the others are as they were.
+use Prim.Native.Nat.{◌-◌}
+use lib.ListN.{length, length-set}
+use native.Mathlib.Omega.{arith}
+use borrow.Author.Rules.{rules}
+use Rattle.lists.proofs.Zeros.{Filled, none, more, all}
+use Rattle.clearing.proofs.clear_bytes.Given as goal
+
+abbrev pub invariant-loop-b : goal.invariant-loop-b
+invariant-loop-b l = Filled l.initial.bytes l.bytes l.b
+
+abbrev pub decreases-loop-b : goal.decreases-loop-b
+decreases-loop-b l = length l.bytes - l.b

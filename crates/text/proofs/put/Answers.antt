@@ -1,0 +1,7 @@
+-- `put` meets its contract. Past the end nothing is written.
+use Rattle.text.proofs.Putting.{wrote_past}
+use borrow.Author.Rules.{rules}
+use Rattle.text.proofs.put.Goals as goal
+
+pub returns-then-output-at : goal.returns-then-output-at
+returns-then-output-at c = wrote_past _ _ _ c.if-output-at.true
