@@ -10,7 +10,7 @@ use testbench::{
 };
 
 // The net that is looked at after a run, and the time at which its levels are asked for.
-#[derive(Drop)]
+#[derive(Clone, Copy)]
 pub(crate) struct Look {
     pub(crate) net: Net,
     pub(crate) time: Time,

@@ -19,7 +19,7 @@ use limiting::Planning;
 use method::{Tick, Totals};
 
 // What the charge call answers: Run's totals and the charge, or the number of the first "no".
-#[derive(Drop)]
+#[derive(Clone, Copy)]
 pub enum Charged {
     Drawn(Totals, f64),
     Refused(u8),

@@ -4,7 +4,7 @@ pub mod drawing;
 pub mod listing;
 
 // What a change on a net draws, in picocoulombs: one charge for any change, or one for rising and one for falling.
-#[derive(Drop)]
+#[derive(Clone, Copy)]
 pub enum Load {
     Any(f64),
     Edges { rising: f64, falling: f64 },

@@ -17,7 +17,7 @@ use writing::{delays_up_to, write};
 const PRESENT_FROM: u16 = 256;
 
 // What converting answers: the length of the file written, or the number of the first "no".
-#[derive(Drop)]
+#[derive(Clone, Copy)]
 pub enum Conversion {
     Written(u16),
     Refused(u8),

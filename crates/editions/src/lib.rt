@@ -1,5 +1,6 @@
 // The circuit file in its two editions: questions 1 to 9, and a gate's record. One reader serves both.
 #![tactic(auto)]
+
 ghost use Rattle.std.specs.Prelude.{◌≡◌, ℕ, ◌+◌, ◌*◌, ◌≤◌, ◌<◌, length};
 ghost use Rattle.lists.specs.Ladder.{first_no, between};
 ghost use Rattle.lists.specs.Tables.{tabulate, all_below};
@@ -25,7 +26,7 @@ const MOST_GATES: u16 = 128;
 const MOST_FANINS: u16 = 8;
 
 // What tells an edition apart: what bytes 0-1 hold besides I, whether a delay has two bytes or one, and the greatest delay.
-#[derive(Drop)]
+#[derive(Clone, Copy)]
 pub struct Edition {
     pub added: u16,
     pub wide: bool,
@@ -55,14 +56,14 @@ pub fn former() -> Edition
 }
 
 // What reading a circuit file answers: I and G, or the number of the first "no".
-#[derive(Drop)]
+#[derive(Clone, Copy)]
 pub enum Reading {
     Accepted { inputs: u16, gates: u16 },
     Refused(u8),
 }
 
 // A gate's record, taken apart: its fan-in list has `entries` entries and starts at byte `list`.
-#[derive(Drop)]
+#[derive(Clone, Copy)]
 pub struct GateRecord {
     pub kind: Kind,
     pub delay: Tick,

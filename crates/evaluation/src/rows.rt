@@ -11,7 +11,7 @@ const ALL: u64 = 18446744073709551615;
 // How a kind works on words: the lanes in which an odd number of entries are 1, or else those in which some entry is, each
 // turned first; then the result flipped. To turn or flip is all lanes or none, so that eight kinds need two ways. The kind
 // itself is there for the contracts.
-#[derive(Drop)]
+#[derive(Clone, Copy)]
 pub(crate) struct Rule {
     kind: Kind,
     parity: bool,

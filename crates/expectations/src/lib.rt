@@ -6,7 +6,7 @@ pub mod search;
 use method::{Frame, Net, Time};
 
 // What a marker expects: on this net, in this lane, this level (0 or 1) at every time from `from` to `to`, both included.
-#[derive(Drop)]
+#[derive(Clone, Copy)]
 pub struct Expectation {
     pub net: Net,
     pub lane: u8,
@@ -17,7 +17,7 @@ pub struct Expectation {
 
 // What Mark answers: all met; or the position of the first expectation that is not, from 0, with the first frame that
 // breaks it; or the number of the first "no".
-#[derive(Drop)]
+#[derive(Clone, Copy)]
 pub enum Marking {
     AllMet,
     Unmet(usize, Frame),

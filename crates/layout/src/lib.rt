@@ -18,7 +18,7 @@ use method::{Tick, Totals};
 const MOST_FANINS: usize = 8;
 
 // How far planning has come: the totals so far, or that there are too many frames.
-#[derive(Drop)]
+#[derive(Clone, Copy)]
 pub enum Progress {
     Planned(Totals),
     TooMany,

@@ -18,7 +18,7 @@ use slices::is_between;
 const MOST_TOTAL_FRAMES: u16 = 2048;
 
 // What planning answers: the totals, or the number of the first "no".
-#[derive(Drop)]
+#[derive(Clone, Copy)]
 pub enum Planning {
     Planned(Totals),
     Refused(u8),

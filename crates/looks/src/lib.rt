@@ -13,14 +13,14 @@ pub use parts::{times_of, values_of};
 pub use sights::sight_at;
 
 // Until when a frame lasts: the time at which the next begins. The last frame has no end.
-#[derive(Drop)]
+#[derive(Clone, Copy)]
 pub enum Until {
     Next(Time),
     NoEnd,
 }
 
 // What is seen of a net in a lane at a frame: the level, when the frame began, and until when it lasts.
-#[derive(Drop)]
+#[derive(Clone, Copy)]
 pub struct Sight {
     pub level: bool,
     pub began: Time,
@@ -28,14 +28,14 @@ pub struct Sight {
 }
 
 // What Level answers: the level with its frame's begin and end, or the number of the first "no".
-#[derive(Drop)]
+#[derive(Clone, Copy)]
 pub enum Seen {
     Level(Sight),
     Refused(u8),
 }
 
 // What Count answers: how many changes, or the number of the first "no".
-#[derive(Drop)]
+#[derive(Clone, Copy)]
 pub enum Counted {
     Changes(u16),
     Refused(u8),

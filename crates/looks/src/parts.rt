@@ -6,7 +6,7 @@ use method::{Net, Tick};
 use slices::entry_at;
 
 // Where the frames of a net lie in an area.
-#[derive(Drop)]
+#[derive(Clone, Copy)]
 struct Span {
     first: usize,
     end: usize,

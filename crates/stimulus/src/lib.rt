@@ -1,6 +1,7 @@
 // What drives the inputs, as a caller lends it: a count for each input and all their change times, question 20, and their words,
 // question 11.
 #![tactic(auto)]
+
 ghost use Rattle.std.specs.Prelude.{◌≡◌, map, ℕ, ◌≤◌, leb, length};
 ghost use Rattle.lists.specs.Ladder.{between};
 ghost use Rattle.lists.specs.Tables.{tabulate, every};

@@ -14,7 +14,7 @@ use text::put_refused;
 pub const BUFFER_LENGTH: usize = 24000;
 
 // What printing answers: the length of the text, or that the buffer has another length than it must have.
-#[derive(Drop)]
+#[derive(Clone, Copy)]
 pub enum Printing {
     Printed(usize),
     OtherLength,

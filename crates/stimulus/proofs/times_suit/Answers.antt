@@ -1,0 +1,25 @@
+-- `times_suit` meets its contract: the loop stands at place k, each time before it being from 1 to the last.
+use Prim.Native.Nat.{◌-◌}
+use mathlib.Core.Path.{◌≡◌, refl, sym, ◌∙◌}
+use mathlib.Core.List.{map}
+use lib.ListN.{length, drop}
+use borrow.Author.Tests.{not-true, not-false}
+use Rattle.lists.specs.Ladder.{between}
+use Rattle.lists.specs.Tables.{every}
+use Rattle.method.specs.Changes.{last_change}
+use Rattle.stimulus.proofs.Turns.{each_no, each_on, each_end}
+use borrow.Author.Rules.{rules}
+use Rattle.stimulus.proofs.times_suit.Goals as goal
+
+pub loop-k-init : goal.loop-k-init
+loop-k-init c = refl
+
+pub returns-then-not-ticks_between : goal.returns-then-not-ticks_between
+returns-then-not-ticks_between c = each_no (between 1 last_change) _ _ c.loop-k.invariant c.loop-k-test.true (sym c.ticks_between.ensures ∙ not-true _ c.if-not-ticks_between.true)
+
+-- what passes is asked before what does not: a limit that is too high fails here
+pub loop-k-preserved : goal.loop-k-preserved
+loop-k-preserved c = each_on (between 1 last_change) _ _ c.loop-k.invariant c.loop-k-test.true (sym c.ticks_between.ensures ∙ not-false _ c.if-not-ticks_between.false)
+
+pub returns : goal.returns
+returns c = each_end (between 1 last_change) _ _ c.loop-k.invariant c.loop-k-test.false

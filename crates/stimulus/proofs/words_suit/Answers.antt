@@ -1,0 +1,9 @@
+-- `words_suit` meets its contract: the two lengths are asked in turn.
+use Rattle.stimulus.proofs.Asked.{not_before, after_decides}
+use Rattle.stimulus.proofs.words_suit.Goals as goal
+
+pub returns-then-before-inputs : goal.returns-then-before-inputs
+returns-then-before-inputs c = not_before _ _ _ c.if-before-inputs.true
+
+pub returns : goal.returns
+returns c = after_decides _ _ _ c.if-before-inputs.false
