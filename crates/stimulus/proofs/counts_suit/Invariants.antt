@@ -12,6 +12,9 @@ use Rattle.stimulus.proofs.Turns.{each_no, each_on, each_end}
 use borrow.Author.Rules.{rules}
 use Rattle.stimulus.proofs.counts_suit.Given as goal
 
+abbrev few : ℕ → Bool
+few k = leb k most_changes
+
 abbrev pub invariant-loop-i : goal.invariant-loop-i
 invariant-loop-i l = every (map few l.counts) ≡ every (map few (drop l.i l.counts))
 

@@ -1,0 +1,12 @@
+-- `editions::delays_suit` meets its contract. The first test decides, else the second.
+use Rattle.editions.proofs.Gated.{delay_out, inertial_decides}
+use borrow.Author.Rules.{rules}
+use mathlib.Core.Path.{ap}
+use mathlib.Core.Bool.{not}
+use Rattle.editions.proofs.delays_suit.Goals as goal
+
+pub returns-then-not-ticks_between : goal.returns-then-not-ticks_between
+returns-then-not-ticks_between c = delay_out _ _ _ c.ticks_between.ensures (ap not c.if-not-ticks_between.true)
+
+pub returns : goal.returns
+returns c = inertial_decides _ _ _ c.ticks_between.ensures (ap not c.if-not-ticks_between.false) c.ticks_between-2.ensures
