@@ -1,5 +1,6 @@
 // Writing a circuit file into a lent area, number by number. Each function writes as far as the area reaches, and nothing else.
 #![tactic(auto)]
+
 ghost use Rattle.std.specs.Prelude.{◌≡◌, ◌++◌, ◌+◌, ◌<◌, set};
 ghost use Rattle.std.proofs.lemmas.List.Edits.{sets};
 ghost use Rattle.editions.specs.Limits.{delay_range};

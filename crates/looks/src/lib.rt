@@ -1,5 +1,6 @@
 // Level and Count: what is read off one net's parts of the times and the values.
 #![tactic(auto)]
+
 ghost use Rattle.std.specs.Prelude.{◌≡◌};
 ghost use Rattle.looks.specs.Look.{level_of, count_of, seen_on_paper, counted_on_paper};
 

@@ -1,0 +1,7 @@
+-- `circuit::read` meets its contract. It is that of editions.
+use Rattle.circuit.proofs.Present.{read_present}
+use borrow.Author.Rules.{rules}
+use Rattle.circuit.proofs.read.Goals as goal
+
+pub returns : goal.returns
+returns c = read_present _ c.present.ensures c.read.ensures

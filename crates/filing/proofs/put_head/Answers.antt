@@ -1,0 +1,7 @@
+-- `filing::put_head` meets its contract. Kind, d and di, one behind the other.
+use Rattle.filing.proofs.Putting.{head_put}
+use borrow.Author.Rules.{rules}
+use Rattle.filing.proofs.put_head.Goals as goal
+
+pub returns : goal.returns
+returns c = head_put _ _ _ _ _ _ c.kind_number.ensures c.delay_bytes.ensures c.put_byte.ensures c.put_delay.ensures c.put_delay-2.ensures

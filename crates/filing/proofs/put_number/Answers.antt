@@ -1,0 +1,10 @@
+-- `filing::put_number` meets its contract. The low byte, then the high one.
+use Rattle.filing.proofs.Putting.{put_none, put_two}
+use borrow.Author.Rules.{rules}
+use Rattle.filing.proofs.put_number.Goals as goal
+
+pub returns-then-area-at : goal.returns-then-area-at
+returns-then-area-at c = put_none _ _ _ c.if-area-at.true
+
+pub returns : goal.returns
+returns c = put_two _ _ _ c.put_byte.ensures c.put_byte-2.ensures

@@ -1,0 +1,7 @@
+-- `sight_at` meets its contract: level, begin and end are each what is seen of the frame.
+use Rattle.looks.proofs.Sighting.{sight_is}
+use borrow.Author.Rules.{rules}
+use Rattle.looks.proofs.sights.sight_at.Goals as goal
+
+pub returns : goal.returns
+returns c = let s = c.args in sight_is s.times.now _ s.values.now _ _ c.word_at.ensures c.bit_of-level.ensures c.tick_at.ensures c.until.ensures
