@@ -1,5 +1,6 @@
 // From one edition of the circuit file to the other: the same circuit, delays as the same numbers.
 #![tactic(auto)]
+
 ghost use Rattle.std.specs.Prelude.{◌≡◌, leb};
 ghost use Rattle.lists.specs.Outcome.{outcome};
 ghost use Rattle.numbers.specs.Numbers.{number_at};

@@ -1,6 +1,7 @@
 // The times of one gate, gathered from the times of its fan-ins. An inner crate: its functions ask their caller for what they
 // need.
 #![tactic(auto)]
+
 ghost use Rattle.std.specs.Prelude.{◌≡◌, ℕ, ◌+◌, ◌-◌, ◌*◌, ◌≤◌, ◌<◌, true, cond, [], ◌∷◌, ◌++◌, length, get_or, take, drop, leb};
 ghost use Rattle.lists.specs.Front.{leading};
 ghost use Rattle.method.specs.Kinds.{most_fanins};

@@ -1,0 +1,12 @@
+-- `converter::write_pairs` meets its contract. The loop's invariant: the pairs from gate j on are still to be stored.
+use Prim.Native.Nat.{◌-◌}
+use native.Mathlib.Omega.{arith}
+use Rattle.converter.proofs.Rewriting.{record_few, head_few, Pairing, pairing_none, pairing_more, pairing_all}
+use borrow.Author.Rules.{rules}
+use Rattle.converter.proofs.writing.write_pairs.Given as goal
+
+abbrev pub invariant-loop-j : goal.invariant-loop-j
+invariant-loop-j l = Pairing l.from l.to l.file l.gates l.initial.area l.area l.start l.j
+
+abbrev pub decreases-loop-j : goal.decreases-loop-j
+decreases-loop-j l = l.gates - l.j

@@ -1,0 +1,22 @@
+-- `put_time` meets its contract: the place is behind the times at the front that are earlier.
+use mathlib.Core.Logic.{⊎_elim}
+use native.Mathlib.Omega.{arith}
+use Rattle.gathering.proofs.Inserting.{place_within, insert_kept, insert_put}
+use borrow.Author.Rules.{rules}
+use Rattle.gathering.proofs.put_time.Goals as goal
+
+pub returns-then-here-t : goal.returns-then-here-t
+returns-then-here-t c = let s = c in insert_kept _ _ _ s.requires.0 s.requires.1 s.requires.2 c.if-place-count.true c.if-here-t.true
+
+pub shift-requires : goal.shift-requires
+shift-requires c = let s = c in (place_within _ _ _ s.requires.0 s.requires.1 s.requires.2, s.requires.0)
+
+pub offset_bounds-gathered-place-2 : goal.offset_bounds-gathered-place-2
+offset_bounds-gathered-place-2 c = let s = c in omega (arith, place_within _ _ _ s.requires.0 s.requires.1 s.requires.2)
+
+pub bounds-gathered-place-2 : goal.bounds-gathered-place-2
+bounds-gathered-place-2 c = let s = c in omega (arith, place_within _ _ _ s.requires.0 s.requires.1 s.requires.2)
+
+pub returns : goal.returns
+returns c = let s = c in
+    insert_put _ _ _ s.requires.0 s.requires.1 s.requires.2 (⊎_elim (λ w l e. w.2.left e) (λ w l e. absurd (omega (arith, w.left))) c.if-place-count.branch) c.shift.ensures
