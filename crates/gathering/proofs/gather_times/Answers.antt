@@ -19,7 +19,7 @@ pub fanin_at-requires : goal.fanin_at-requires
 fanin_at-requires c = omega (arith, c.requires.fed.listed, c.loop-e-test.true)
 
 pub times_of-fanin-requires : goal.times_of-fanin-requires
-times_of-fanin-requires c = fanin_there c.requires.fed c.loop-e.e c.loop-e-test.true c.fanin_at.ensures
+times_of-fanin-requires c = let p = fanin_there c.requires.fed c.loop-e.e c.loop-e-test.true c.fanin_at.ensures in record { net_in_bounds = p.0; net_in_bounds_2 = p.1 }
 
 pub add_times-count-requires : goal.add_times-count-requires
 add_times-count-requires c = let s = c in
@@ -27,8 +27,7 @@ add_times-count-requires c = let s = c in
     let e = c.loop-e.e in
     let h = c.loop-e-test.true in
     let n = c.fanin_at.ensures in
-    let few : length c.times_of-fanin.result.now ≤ most_net_frames = rw c.times_of-fanin.ensures (fanin_few f e h n) in
-    ((rw (c.times_of-fanin.ensures, n) (f.starts e h), λ i. rw c.times_of-fanin.ensures (fanin_early f e h n i)), (f.delay_least, f.delay_most, omega (arith, f.entries_most, s.requires.most_net_frames_in_bounds, length-set s.args.gathered.now 0 0)))
+    let few : length c.times_of-fanin.result.now ≤ most_net_frames = rw c.times_of-fanin.ensures (fanin_few f e h n) in record { fanin_value = (rw (c.times_of-fanin.ensures, n) (f.starts e h), λ i. rw c.times_of-fanin.ensures (fanin_early f e h n i)); le_delay = (f.delay_least, f.delay_most, omega (arith, f.entries_most, s.requires.most_net_frames_in_bounds, length-set s.args.gathered.now 0 0)) }
 
 pub loop-e-preserved : goal.loop-e-preserved
 loop-e-preserved c = let s = c in

@@ -4,6 +4,7 @@ use native.Mathlib.Omega.{arith}
 use Rattle.gathering.proofs.Inserting.{place_within, insert_kept, insert_put}
 use borrow.Author.Rules.{rules}
 use Rattle.gathering.proofs.put_time.Goals as goal
+use Rattle.gathering.proofs.put_time.Goals.{then-place-count+else-here-t, else-place-count}
 
 pub returns-then-here-t : goal.returns-then-here-t
 returns-then-here-t c = let s = c in insert_kept _ _ _ s.requires.0 s.requires.1 s.requires.2 c.if-place-count.true c.if-here-t.true
@@ -19,4 +20,4 @@ bounds-gathered-place-2 c = let s = c in omega (arith, place_within _ _ _ s.requ
 
 pub returns : goal.returns
 returns c = let s = c in
-    insert_put _ _ _ s.requires.0 s.requires.1 s.requires.2 (⊎_elim (λ w l e. w.2.left e) (λ w l e. absurd (omega (arith, w.left))) c.if-place-count.branch) c.shift.ensures
+    insert_put _ _ _ s.requires.0 s.requires.1 s.requires.2 (elim c.if-place-count.branch [ then-place-count+else-here-t w ↦ λ l e. w.if-here-t.false e | else-place-count w ↦ λ l e. absurd (omega (arith, w.if-place-count.false)) ]) c.shift.ensures
