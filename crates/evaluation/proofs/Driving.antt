@@ -36,7 +36,7 @@ module _ (counts : List ℕ) (w : WordLists) where
   -- where the words of input i lie, there is room for them, in the values and among the after words
   module _ {v : List ℕ} (f : Fed counts (lengths_of w) v) {i start : ℕ} (h : i < length w.before) (s : start ≡ start_of counts i) where
     pub input_after : start + get_or counts i 0 ≤ length w.after
-    input_after = omega (arith, start_mono counts i (length w.before) h, f.add_up_lem)
+    input_after = omega (arith, start_mono counts i (length w.before) h, f.add_up)
 
     pub input_room : i + start + 1 + get_or counts i 0 ≤ length v
     input_room = omega (arith, input_after, f.room)

@@ -68,7 +68,7 @@ module _ (task : Task) (w : WordLists) (suits : changes_suit (inputs_of task.fil
   fed {v} d =
       record {
         each = chosen.each ∙ sym d.before_each;
-        add_up_lem = ap (start_of counts) d.before_each ∙ chosen.total ∙ sym d.after_each;
+        add_up = ap (start_of counts) d.before_each ∙ chosen.total ∙ sym d.after_each;
         room = omega (arith, inputs_end, frames_first (frames_in task) c.inputs, inputs_are, d.before_each, d.after_each, d.words.words);
       }
 

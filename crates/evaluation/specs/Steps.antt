@@ -167,7 +167,7 @@ input_words counts w n =
 -- a count for each before word, as many after words as the counts add up to, and room for all of them
 pub record Fed (counts : List ℕ) (l : Lengths) (v : List ℕ) : Type 0 where
   pub each : length counts ≡ l.before
-  pub add_up_lem : start_of counts l.before ≡ l.after
+  pub add_up : start_of counts l.before ≡ l.after
   pub room : l.before + l.after ≤ length v
 
 -- ---- the whole

@@ -1,5 +1,6 @@
 // The words of all nets, from a plan in the areas. An inner crate: its function asks its caller for what it needs.
 #![tactic(auto)]
+
 ghost use Rattle.std.specs.Prelude.{◌≡◌, length};
 ghost use Rattle.lists.specs.Areas.{padded};
 ghost use Rattle.method.specs.WordLists.{word_lists, lengths_of};

@@ -1,6 +1,7 @@
 // The frames of one gate, written behind those of the nets before it. An inner crate: its functions ask their caller for what
 // they need.
 #![tactic(auto)]
+
 ghost use Rattle.std.specs.Prelude.{◌≡◌, length};
 ghost use mathlib.Core.List.{flat_map};
 ghost use Rattle.method.specs.Times.{gate_times};

@@ -1,0 +1,17 @@
+-- `evaluation::gates::bases_of` meets its contract. After e entries the array has their nets' first frames.
+use Prim.Native.Nat.{ℕ, ◌-◌, ◌≤◌, ◌<◌}
+use mathlib.Core.Path.{◌≡◌, refl, ◌∙◌}
+use native.Mathlib.Omega.{arith}
+use lib.ListN.{length, get_or, length-set}
+use Rattle.method.specs.Kinds.{most_fanins}
+use Rattle.circuit.specs.File.{fanin_at}
+use Rattle.method.specs.Layout.{first_frame}
+use Rattle.evaluation.proofs.Driving.{agrees_more}
+use borrow.Author.Rules.{rules}
+use Rattle.evaluation.proofs.gates.bases_of.Given as goal
+
+abbrev pub invariant-loop-e : goal.invariant-loop-e
+invariant-loop-e l = (l.e ≤ l.entries) × (length l.bases ≡ most_fanins) × ((i : ℕ) → i < l.e → get_or l.bases i 0 ≡ first_frame l.directory (fanin_at l.file l.list i))
+
+abbrev pub decreases-loop-e : goal.decreases-loop-e
+decreases-loop-e l = l.entries - l.e

@@ -1,0 +1,15 @@
+-- `evaluation::rows::pair_rows` meets its contract. The rows are read as they were, since they point below what is written.
+use Prim.Native.Nat.{◌-◌}
+use mathlib.Core.Path.{ap, ◌∙◌}
+use mathlib.Core.List.{[], ◌∷◌}
+use native.Mathlib.Omega.{arith}
+use native.Mathlib.Nat.{add-zero}
+use Rattle.evaluation.specs.Steps.{gate_word}
+use Rattle.evaluation.proofs.Writing.{Written, written_none, written_row, written_more, written_all, row_points, pair_sources}
+use Rattle.evaluation.proofs.rows.pair_rows.Given as goal
+
+abbrev pub invariant-loop-k : goal.invariant-loop-k
+invariant-loop-k l = Written l.initial.values (l.x ∷ l.y ∷ []) l.fanins l.rule.kind l.at 2 l.first l.frames l.values l.row l.k
+
+abbrev pub decreases-loop-k : goal.decreases-loop-k
+decreases-loop-k l = l.frames - l.k

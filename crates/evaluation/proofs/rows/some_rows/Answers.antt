@@ -1,0 +1,37 @@
+-- `evaluation::rows::some_rows` meets its contract. The rows are read as they were, since they point below what is written.
+use Prim.Native.Nat.{◌-◌}
+use native.Mathlib.Omega.{arith}
+use Rattle.lists.proofs.Tabled.{from_length}
+use Rattle.evaluation.proofs.Making.{made_some}
+use Rattle.evaluation.proofs.Writing.{Written, written_none, written_row, written_more, written_all}
+use Rattle.evaluation.proofs.rows.some_rows.Goals as goal
+
+pub loop-k-init : goal.loop-k-init
+loop-k-init c = written_none _ _ _ _ _ _ _ _
+
+pub some_of-requires : goal.some_of-requires
+some_of-requires c = written_row _ _ _ _ _ _ _ _ c.requires.0 c.loop-k.invariant c.loop-k-test.true
+
+pub overflow_add-values : goal.overflow_add-values
+overflow_add-values c = omega (arith, c.requires.0.room, c.loop-k.invariant.left.same)
+
+pub offset_bounds-values-first : goal.offset_bounds-values-first
+offset_bounds-values-first c = omega (arith, c.requires.0.room, c.loop-k.invariant.left.same)
+
+pub bounds-values-first : goal.bounds-values-first
+bounds-values-first c = omega (arith, c.requires.0.room, c.loop-k.invariant.left.same)
+
+pub overflow_add-row : goal.overflow_add-row
+overflow_add-row c = omega (arith, (written_row _ _ _ _ _ _ _ _ c.requires.0 c.loop-k.invariant c.loop-k-test.true).within)
+
+pub overflow_add-k : goal.overflow_add-k
+overflow_add-k c = omega (arith, c.requires.0.room)
+
+pub loop-k-preserved : goal.loop-k-preserved
+loop-k-preserved c = written_more _ _ _ _ _ _ _ _ c.requires.0 c.loop-k.invariant c.loop-k-test.true _ (made_some c.args.rule c.requires.1 c.requires.2 c.some_of.ensures (rw (from_length c.args.entries 0 _) c.requires.0.taken) (omega arith))
+
+pub shape_of-values : goal.shape_of-values
+shape_of-values c = c.loop-k.invariant.left.same
+
+pub returns : goal.returns
+returns c = written_all _ _ _ _ _ _ _ _ c.requires.0 c.loop-k.invariant c.loop-k-test.false

@@ -1,0 +1,26 @@
+-- `index_pairs` meets its contract: the rows from frame k on are still to be stored; the frame of each fan-in at the time of frame k is
+-- the one begun last, or the next.
+use Prim.Native.Nat.{◌+◌, ◌-◌, ◌*◌, ◌≤◌, ◌<◌}
+use mathlib.Core.Path.{◌≡◌, refl}
+use mathlib.Core.List.{[], ◌∷◌, flat_map}
+use native.Mathlib.Omega.{arith}
+use lib.ListN.{length, get_or, drop, length-set}
+use lib.Seq.{sets}
+use Rattle.method.specs.Indices.{last_frame}
+use Rattle.method.specs.Frames.{fanin_row}
+use Rattle.method.proofs.Rising.{Starts, test_starts}
+use Rattle.method.proofs.Lasting.{last_within}
+use Rattle.framing.proofs.Indexing.{index_at, walk_start, walk_low, walk_high}
+use Rattle.framing.proofs.Columns.{pairs_on, pairs_end}
+use borrow.Author.Rules.{rules}
+use Rattle.framing.proofs.indices.index_pairs.Given as goal
+
+abbrev pub invariant-loop-k : goal.invariant-loop-k
+invariant-loop-k l =
+    (l.place ≡ l.first + l.k * 2) × (length l.fanins ≡ length l.initial.fanins)
+    × (l.k < length l.own → l.x ≤ last_frame l.one (get_or l.own l.k 0 - l.delay)) × (l.k < length l.own → last_frame l.one (get_or l.own l.k 0 - l.delay) ≤ l.x + 1)
+    × (l.k < length l.own → l.y ≤ last_frame l.other (get_or l.own l.k 0 - l.delay)) × (l.k < length l.own → last_frame l.other (get_or l.own l.k 0 - l.delay) ≤ l.y + 1)
+    × (sets l.initial.fanins l.first (flat_map (fanin_row l.delay (l.one ∷ l.other ∷ [])) l.own) ≡ sets l.fanins l.place (flat_map (fanin_row l.delay (l.one ∷ l.other ∷ [])) (drop l.k l.own)))
+
+abbrev pub decreases-loop-k : goal.decreases-loop-k
+decreases-loop-k l = length l.own - l.k
