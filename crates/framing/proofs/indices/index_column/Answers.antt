@@ -53,8 +53,8 @@ loop-k-preserved c = let start : Starts c.args.fanin.now = test_starts c.args.fa
       simp length-set l.invariant.1,
       (λ h. rw f (walk_low s.args.delay s.args.fanin.now s.args.own.now (start) rises l.k h)),
       (λ h. rw f (walk_high s.args.delay s.args.fanin.now s.args.own.now (start) rises l.k h s.requires.span_2.1)),
-      column_on _ _ _ _ _ _ _ l.invariant.4 c.loop-k-test.true (index_at s.args.delay s.args.fanin.now s.args.own.now (start) rises (get_or s.args.own.now l.k 0) f),
+      column_on c.args.own.now c.args.delay c.args.width c.args.fanin.now c.loop-k.k c.loop-k.place c.loop-k.fanins l.invariant.4 c.loop-k-test.true (index_at s.args.delay s.args.fanin.now s.args.own.now (start) rises (get_or s.args.own.now l.k 0) f),
     )
 
 pub returns : goal.returns
-returns c = column_end _ _ _ _ _ _ _ c.loop-k.invariant.4 c.loop-k-test.false
+returns c = column_end c.args.own.now c.args.delay c.args.width c.args.fanin.now c.loop-k.k c.loop-k.place c.loop-k.fanins c.loop-k.invariant.4 c.loop-k-test.false

@@ -23,14 +23,14 @@ pub times_of-fanin-requires : goal.times_of-fanin-requires
 times_of-fanin-requires c = let p = fanin_there c.requires.fed c.loop-e.e c.loop-e-test.true c.fanin_at.ensures in record { net_in_bounds = p.0; net_in_bounds_2 = p.1 }
 
 pub index_column-requires : goal.index_column-requires
-index_column-requires c =    let s = c in
+index_column-requires c = let s = c in
     let l = c.loop-e in
     let h = c.loop-e-test.true in
     let n = c.fanin_at.ensures in
     let t = c.times_of-fanin.ensures in record { span = (rw t (fanin_span s.requires.fed l.e h n), s.requires.fed.delay_most); span_2 = (s.requires.span.0, shown_at _ _ _ _ _ _ h n t s.requires.span.1); width_le_most_fanins = (s.requires.fed.entries_most, omega (arith, s.requires.entries_in_bounds, l.invariant.0, h)) }
 
 pub loop-e-preserved : goal.loop-e-preserved
-loop-e-preserved c =    let l = c.loop-e in
+loop-e-preserved c = let l = c.loop-e in
     let h = c.loop-e-test.true in
     let n = c.fanin_at.ensures in
     let t = c.times_of-fanin.ensures in (

@@ -49,7 +49,7 @@ pub overflow_add-place : goal.overflow_add-place
 overflow_add-place c = let s = c in let l = c.loop-k in omega (arith, l.invariant.0, l.invariant.1, s.requires.own_in_bounds, c.loop-k-test.true)
 
 pub loop-k-preserved : goal.loop-k-preserved
-loop-k-preserved c = let one : Starts c.args.one.now = test_starts c.args.one.now c.requires.span.0.starts in let other : Starts c.args.other.now = test_starts c.args.other.now c.requires.span.1.starts in let s = c in let l = c.loop-k in (omega (arith, l.invariant.0, l.invariant.1, s.requires.own_in_bounds, c.loop-k-test.true), simp length-set l.invariant.1, (λ h. rw c.begun_by-x.ensures (walk_low s.args.delay s.args.one.now s.args.own.now (one) s.requires.span_2.0.starts l.k h)), (λ h. rw c.begun_by-x.ensures (walk_high s.args.delay s.args.one.now s.args.own.now (one) s.requires.span_2.0.starts l.k h s.requires.span_2.1)), (λ h. rw c.begun_by-y.ensures (walk_low s.args.delay s.args.other.now s.args.own.now (other) s.requires.span_2.0.starts l.k h)), (λ h. rw c.begun_by-y.ensures (walk_high s.args.delay s.args.other.now s.args.own.now (other) s.requires.span_2.0.starts l.k h s.requires.span_2.2)), pairs_on _ _ _ _ _ _ _ l.invariant.6 c.loop-k-test.true (index_at s.args.delay s.args.one.now s.args.own.now (one) s.requires.span_2.0.starts (get_or s.args.own.now l.k 0) c.begun_by-x.ensures) (index_at s.args.delay s.args.other.now s.args.own.now (other) s.requires.span_2.0.starts (get_or s.args.own.now l.k 0) c.begun_by-y.ensures))
+loop-k-preserved c = let one : Starts c.args.one.now = test_starts c.args.one.now c.requires.span.0.starts in let other : Starts c.args.other.now = test_starts c.args.other.now c.requires.span.1.starts in let s = c in let l = c.loop-k in (omega (arith, l.invariant.0, l.invariant.1, s.requires.own_in_bounds, c.loop-k-test.true), simp length-set l.invariant.1, (λ h. rw c.begun_by-x.ensures (walk_low s.args.delay s.args.one.now s.args.own.now (one) s.requires.span_2.0.starts l.k h)), (λ h. rw c.begun_by-x.ensures (walk_high s.args.delay s.args.one.now s.args.own.now (one) s.requires.span_2.0.starts l.k h s.requires.span_2.1)), (λ h. rw c.begun_by-y.ensures (walk_low s.args.delay s.args.other.now s.args.own.now (other) s.requires.span_2.0.starts l.k h)), (λ h. rw c.begun_by-y.ensures (walk_high s.args.delay s.args.other.now s.args.own.now (other) s.requires.span_2.0.starts l.k h s.requires.span_2.2)), pairs_on c.args.own.now c.args.delay c.args.one.now c.args.other.now c.loop-k.k c.loop-k.place c.loop-k.fanins l.invariant.6 c.loop-k-test.true (index_at s.args.delay s.args.one.now s.args.own.now (one) s.requires.span_2.0.starts (get_or s.args.own.now l.k 0) c.begun_by-x.ensures) (index_at s.args.delay s.args.other.now s.args.own.now (other) s.requires.span_2.0.starts (get_or s.args.own.now l.k 0) c.begun_by-y.ensures))
 
 pub returns : goal.returns
-returns c = let l = c.loop-k in pairs_end _ _ _ _ _ _ _ l.invariant.6 c.loop-k-test.false
+returns c = let l = c.loop-k in pairs_end c.args.own.now c.args.delay c.args.one.now c.args.other.now c.loop-k.k c.loop-k.place c.loop-k.fanins l.invariant.6 c.loop-k-test.false
