@@ -1,7 +1,7 @@
 -- The inputs are planned: areas cleared, the pairs and times of the inputs written.
 -- Assumes nothing.
 use Prim.Native.Nat.{ℕ, zero, suc, ◌+◌, ◌-◌, ◌*◌, ◌≤◌, ◌<◌, max}
-use mathlib.Core.Path.{◌≡◌, refl, sym, ap, ap₂, ◌∙◌}
+use mathlib.Core.Path.{◌≡◌, refl, sym, ap, ap₂, subst, ◌∙◌}
 use mathlib.Core.Bool.{true}
 use mathlib.Core.List.{List, [], ◌∷◌, ◌++◌, flat_map, flatten}
 use native.Mathlib.Omega.{arith}
@@ -43,7 +43,7 @@ none_up_to e (t ∷ ts) r = rw (lt-leb t e r.0) (none_up_to e ts (rise_lower ts 
 
 inertial_zeros : (t : ℕ) (ts : List ℕ) → Rise t ts → inertial_indices 0 (t ∷ ts) ≡ replicate (suc (length ts)) 0
 inertial_zeros t [] r = refl
-inertial_zeros t (u ∷ ts) r = ap₂ ◌∷◌ (rw (add-zero t) (none_up_to t (u ∷ ts) r)) (inertial_zeros u ts r.1)
+inertial_zeros t (u ∷ ts) r = ap₂ ◌∷◌ (subst (λ (e : ℕ). up_to e (u ∷ ts) ≡ 0) (sym (add-zero t)) (none_up_to t (u ∷ ts) r)) (inertial_zeros u ts r.1)
 
 module _ (m : Moments) (o : Ordered m) where
   inertial_from : (n j : ℕ) → all_inertial (tabulate_from n j (λ (i : ℕ). input_frames (m i))) ≡ replicate (length (all_times (tabulate_from n j (λ (i : ℕ). input_frames (m i))))) 0

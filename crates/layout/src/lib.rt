@@ -1,5 +1,6 @@
 // The frames of every net of a circuit, laid out in areas. An inner crate: its functions ask their caller for what they need.
 #![tactic(auto)]
+
 ghost use Rattle.std.specs.Prelude.{◌≡◌};
 ghost use Rattle.circuit.specs.File.{inputs_of, gates_of};
 ghost use Rattle.circuit.specs.Task.{task_of};
