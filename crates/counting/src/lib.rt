@@ -1,6 +1,7 @@
 // The totals of a plan, without the plan: the frames of every net are counted, and of the areas only the directory and the times
 // are made, since a gate's times are gathered from those before it. An inner crate: its function asks its caller for what it needs.
 #![tactic(auto)]
+
 ghost use Rattle.std.specs.Prelude.{◌≡◌, ◌+◌, ◌*◌, ◌<◌, length};
 ghost use Rattle.method.specs.Kinds.{most_fanins};
 ghost use Rattle.method.specs.Limits.{most_net_frames};

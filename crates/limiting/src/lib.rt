@@ -1,6 +1,7 @@
 // The frames of every net laid out within a caller's limit: questions 13 and 22, the last of every call that plans. An inner
 // crate: `fill_within` asks its caller for what it needs.
 #![tactic(auto)]
+
 ghost use Rattle.std.specs.Prelude.{◌≡◌};
 ghost use Rattle.lists.specs.Outcome.{outcome};
 ghost use Rattle.method.specs.Areas.{areas};

@@ -1,5 +1,6 @@
 // Plan: the frames of every net of a circuit, whose inputs change at given times, laid out in the caller's areas.
 #![tactic(auto)]
+
 ghost use Rattle.std.specs.Prelude.{◌≡◌};
 ghost use Rattle.lists.specs.Outcome.{outcome};
 ghost use Rattle.method.specs.Areas.{areas};

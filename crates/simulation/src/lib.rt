@@ -1,6 +1,7 @@
 // A run behind its questions: the plan within a caller's limit, and the words of all nets. An inner crate: its function asks its
 // caller for what it needs.
 #![tactic(auto)]
+
 ghost use Rattle.std.specs.Prelude.{◌≡◌};
 ghost use Rattle.method.specs.Areas.{areas};
 ghost use Rattle.method.specs.WordLists.{word_lists, lengths_of};
