@@ -1,5 +1,6 @@
 // Run: a circuit simulated in 64 lanes at once.
 #![tactic(auto)]
+
 ghost use Rattle.std.specs.Prelude.{◌≡◌};
 ghost use Rattle.lists.specs.Outcome.{outcome};
 ghost use Rattle.method.specs.WordLists.{word_lists, lengths_of};

@@ -1,5 +1,6 @@
 // Size, which answers a plan's totals with no area lent, and the fitted Run, which takes areas of just these sizes.
 #![tactic(auto)]
+
 ghost use Rattle.std.specs.Prelude.{◌≡◌};
 ghost use Rattle.lists.specs.Outcome.{outcome};
 ghost use Rattle.method.specs.WordLists.{word_lists};
