@@ -1,5 +1,5 @@
--- What the tests of Mark's own functions say: how many nets an expectation needs, what it says that it suits, and whether a
--- frame breaks it.
+-- What the tests of Mark's own functions say: how many nets a list of expectations needs, what an expectation says that it suits,
+-- and whether a frame breaks it.
 -- Assumes nothing.
 use Prim.Native.Nat.{ℕ, ◌+◌, ◌≤◌, ◌<◌, max}
 use mathlib.Core.Path.{◌≡◌, sym, ap, ap₂, ◌∙◌}
@@ -9,7 +9,7 @@ use mathlib.Core.List.{List, [], ◌∷◌, map}
 use native.Mathlib.Omega.{arith}
 use native.Mathlib.Numerals.{add-one}
 use lib.Dec.{ltb, leb, eqb}
-use borrow.Author.Tests.{ltb-true, leb-true, lt-ltb, le-ltb, le-leb, lt-leb}
+use borrow.Author.Tests.{ltb-true, leb-true, le-leb, lt-leb}
 use Rattle.lists.specs.Every.{Every}
 use Rattle.lists.proofs.Each.{every_true}
 use Rattle.lists.proofs.Choices.{order, and_left, and_right}
@@ -23,26 +23,7 @@ use Rattle.expectations.specs.declared.Expectation.{Expectation}
 use Rattle.expectations.specs.Suits.{suits, list_suits}
 use Rattle.expectations.specs.Steps.{no_circuit, nets_for, nets_needed, broken_by, breaks_at}
 
--- ---- how many nets a circuit must have for an expectation
-
-module _ (e : Expectation) where
-  pub needs_lane : lanes ≤ e.lane → no_circuit ≡ nets_for e
-  unfolding nets_for
-  needs_lane h = rw (le-ltb e.lane lanes h)
-
-  module _ (y1 : e.lane < lanes) where
-    pub needs_span : e.to.0 < e.from.0 → no_circuit ≡ nets_for e
-    unfolding nets_for
-    needs_span h = rw (lt-ltb e.lane lanes y1, lt-leb e.from.0 e.to.0 h)
-
-    module _ (y2 : e.from.0 ≤ e.to.0) where
-      pub needs_level : 1 < e.level → no_circuit ≡ nets_for e
-      unfolding nets_for
-      needs_level h = rw (lt-ltb e.lane lanes y1, le-leb e.from.0 e.to.0 y2, lt-leb e.level 1 h)
-
-      pub needs_net : e.level ≤ 1 → e.net.0 + 1 ≡ nets_for e
-      unfolding nets_for
-      needs_net h = rw (lt-ltb e.lane lanes y1, le-leb e.from.0 e.to.0 y2, le-leb e.level 1 h)
+-- ---- how many nets a circuit must have for a list of expectations
 
 -- a circuit that has as many passes question 12
 both_by : (n nets : ℕ) → nets < no_circuit → (b : Bool) → ltb n nets && b ≡ leb (cond b (n + 1) no_circuit) nets

@@ -1,5 +1,3 @@
--- Laws of expectations: the tests of the functions (Judging), what the turns of the loops know, which are walked by hand
--- (Turns), and where a list lies in memory (Places).
+-- Laws of expectations: the tests of the functions (Judging), and what the turns of the loops know (Turns).
 pub mod Judging
 pub mod Turns
-pub mod Places

@@ -1,13 +1,11 @@
 -- What a turn of each loop over the list of expectations knows: where it stands at the end, where it goes on, where it stops.
--- Assumes nothing.
 use Prim.Native.Nat.{ℕ, suc, ◌+◌, ◌-◌, ◌≤◌, ◌<◌, max}
-use mathlib.Core.Path.{◌≡◌, refl, sym, ap, subst, ◌∙◌}
-use mathlib.Core.Bool.{Bool, true, false, not, cond}
+use mathlib.Core.Path.{◌≡◌, refl, sym, ap, ◌∙◌}
+use mathlib.Core.Bool.{Bool, true, false, cond}
 use mathlib.Core.List.{List, ◌∷◌}
 use native.Mathlib.Nat.{zero-max, max-zero}
 use native.Mathlib.Numerals.{add-one}
 use native.Mathlib.Omega.{arith}
-use lib.Dec.{T, eqb, T_not, eqb_refl}
 use lib.ListN.{length, get_or, drop}
 use lib.Seq.{drop-cons, drop-length}
 use Rattle.lists.specs.Ladder.{accepted}
@@ -21,24 +19,6 @@ use Rattle.expectations.specs.Steps.{nets_for, nets_needed, breaks_at, searched_
 -- what a read past the end of a list of expectations gives. No read goes there
 abbrev pub nought : Expectation
 nought = record { net = record { 0 = 0 }; lane = 0; from = record { 0 = 0 }; to = record { 0 = 0 }; level = 0 }
-
--- numbers that a test finds different
-pub apart : (i n : ℕ) → T (not (eqb i n)) → i ≡ n → ⊥
-apart i n t e = T_not (eqb i n) t (subst (λ (j : ℕ). T (eqb i j)) e (eqb_refl i))
-
--- a place that is not the end is before it
-pub before_end : (i n : ℕ) → i ≤ n → T (not (eqb i n)) → i < n
-before_end i n h t = omega (arith, h, apart i n t)
-
--- ---- an answer that is known
-
-cond_yes : (r : Bool) → T r → {A : Type 0} (a b : A) → cond r a b ≡ a
-cond_yes true y a b = refl
-cond_yes false y a b = absurd y
-
-cond_no : (r : Bool) → T (not r) → {A : Type 0} (a b : A) → cond r a b ≡ b
-cond_no true n a b = absurd n
-cond_no false n a b = refl
 
 -- ---- the nets that the list needs: those of the expectations before position i, and of the rest
 
@@ -97,11 +77,11 @@ module _ (d t v : List ℕ) (list : List Expectation) where
     by_frame : from_frame i m k ≡ cond r (place i k) (from_frame i m (k + 1))
     by_frame = frames_one i m k h ∙ ap (λ (s : Bool). cond s (place i k) (from_frame i m (k + 1))) (sym e)
 
-    pub frame_breaks : T r → from_frame i m k ≡ place i k
-    frame_breaks y = by_frame ∙ cond_yes r y (place i k) (from_frame i m (k + 1))
+    pub frame_breaks : r ≡ true → from_frame i m k ≡ place i k
+    frame_breaks y = by_frame ∙ ap (λ (s : Bool). cond s (place i k) (from_frame i m (k + 1))) y
 
-    pub frame_holds : T (not r) → from_frame i m (k + 1) ≡ from_frame i m k
-    frame_holds n = sym (by_frame ∙ cond_no r n (place i k) (from_frame i m (k + 1)))
+    pub frame_holds : r ≡ false → from_frame i m (k + 1) ≡ from_frame i m k
+    frame_holds n = sym (by_frame ∙ ap (λ (s : Bool). cond s (place i k) (from_frame i m (k + 1))) n)
 
 pub all_met_lem : on_paper M.AllMet ≡ accepted all_met
 unfolding on_paper

@@ -1,5 +1,6 @@
 // A list of expectations: how many nets it needs, and the first that areas with a run in them do not meet.
 #![tactic(auto)]
+
 pub mod needs;
 pub mod search;
 

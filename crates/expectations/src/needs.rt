@@ -8,6 +8,7 @@ use crate::Expectation;
 const NO_CIRCUIT: u32 = 131072;
 
 // How many nets a circuit must have so that the expectation passes question 12 there.
+#[tactic(auto, unfolding(crate::specs::Steps::nets_for))]
 fn nets_for(e: Expectation) -> u32
     ensures { result ≡ nets_for e }
 {
@@ -31,7 +32,7 @@ fn at_least(e: Expectation, nets: u32) -> u32
     if nets < needed { needed } else { nets }
 }
 
-// How many nets a circuit must have so that the list passes question 12 there. Proved by hand, as the list is lent.
+// How many nets a circuit must have so that the list passes question 12 there.
 pub fn nets_needed<'a>(list: &'a [Expectation]) -> u32
     ensures { result ≡ nets_needed list.now }
 {

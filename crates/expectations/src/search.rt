@@ -44,7 +44,7 @@ fn breaks<'a>(
     }
 }
 
-// The first expectation that some frame breaks, with the first frame that does. Proved by hand, as the list is lent.
+// The first expectation that some frame breaks, with the first frame that does.
 pub fn first_unmet<'a>(
     directory: &'a [u16],
     times: &'a [Tick],

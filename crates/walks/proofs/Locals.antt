@@ -20,8 +20,8 @@ use mathlib.Core.List.{List, [], ◌∷◌, ◌++◌}
 use lib.Dec.{T}
 use lib.ListN.{get_or}
 use seplogic.Ra.Ura.{Ura}
-use seplogic.Ra.TreeShare.{full_share}
-use mir.Syntax.{Lifetime, Mutability, Ty, w64, ty_ref, ty_enum, ttnil, Opd as Operand, copy, int, int_neg, int_big, float, opd_true, opd_false, opd_unit, ptr_const, place, Body, seq, assign, Rv as RValue, aggregate, addr_of, field, deref, return, Local, local, Fn}
+use base.Fraction.{full_share}
+use mir.Syntax.{Lifetime, Mutability, Ty, w64, ty_ref, ty_enum, ttnil, Opd as Operand, copy, int, int_neg, int_big, float, opd_true, opd_false, opd_unit, ptr_const, size_of, align_of, num_of, fn_addr, vtable, place, Body, seq, assign, Rv as RValue, aggregate, addr_of, field, deref, return, Local, local, Fn}
 use mir.Val.{Val, vunit, vptr, vint, vstruct, vcons, vnil, WT, has_ty}
 use mir.Fields.{get_v, set_v}
 use base.Logic.{SProp, ent, sep, wand, emp, id⊢, via, snd∗, emp∗, wand_i, all_i, guard}
@@ -137,6 +137,11 @@ read E cs opd_true = away
 read E cs opd_false = away
 read E cs opd_unit = away
 read E cs (ptr_const n) = away
+read E cs (size_of τ) = away
+read E cs (align_of τ) = away
+read E cs (num_of w τ) = away
+read E cs (fn_addr f s) = away
+read E cs (vtable τ s) = away
 
 abbrev pub all_read : Places → List Cell → List Operand → Bool
 all_read E cs [] = true
@@ -370,6 +375,11 @@ module _ {M : Type 1} {𝓤 : Ura M} {𝓛 : Logic 𝓤} {K : Type 0} {Γ : List
   one_read t cs opd_false l e = absurd (not_away e)
   one_read t cs opd_unit l e = absurd (not_away e)
   one_read t cs (ptr_const n) l e = absurd (not_away e)
+  one_read t cs (size_of τ) l e = absurd (not_away e)
+  one_read t cs (align_of τ) l e = absurd (not_away e)
+  one_read t cs (num_of w τ) l e = absurd (not_away e)
+  one_read t cs (fn_addr f s) l e = absurd (not_away e)
+  one_read t cs (vtable τ s) l e = absurd (not_away e)
 
   each_read : K → (cs : List Cell) (xs : List Operand) → Last 𝓛 Γ E cs → T (all_read E cs xs) → Opds K 𝓛 Γ E xs (values E cs xs)
   each_read t cs [] l z = no_more t

@@ -1,6 +1,7 @@
 -- The parameters of a function, described once in a list, and what a walk has of such a list as one entry of its context:
 -- so one parameter more that is only passed on is one more in the list.
---     Param            a `&'a [T]`, a `&'a mut [T]`, or plain data. 'a is the first lifetime
+--     Param            a `&'a [T]`, with the laws of what a `&` to T holds, a `&'a mut [T]`, or plain data. 'a is the first
+--                      lifetime
 --     rows, spells, tells, lawfuls     their types, their machine values, and the laws of these
 --     Before, beside, front, past      a tuple that begins with their values, as a call's arguments
 --     EndsBefore, ends_beside, ends_front, ends_past     one that begins with what is bound for them at exit
@@ -20,15 +21,15 @@ use base.Logic.{ent, sep, emp, id⊢, emp∗, snd∗}
 use base.Fml.{Lft, Fml, Incl, ftrue, fsep}
 use types.Logic.{Logic, sem}
 use types.Kit.{Item, Goal, Step, step, cut, ‵, ◌⊛◌, ◌$◌, ◌∵◌, !, qed, move, use1, use2, split, fsplit, fjoin, done}
-use denote.RattleType.{RattleType, Denots}
+use denote.RattleType.{RattleType, RowLaws, Denots}
 use denote.Laws.{Typed, Is, Ises, Tells, Spells, Tellss, Lawful, Lawfuls}
 use denote.Exit.{yes, Last, left}
 use denote.Plain.{UInt, uint_vals, uint_Tells}
-use denote.Slice.{ShrSlice, MutSlice, shr_slice_vals, shr_slice_Tells, mut_slice_Tells, shr_slice_Lawful, mut_slice_Lawful}
+use denote.Slice.{ShrSlice, MutSlice, shr_slice_vals, mut_slice_vals, shr_slice_Tells, mut_slice_Tells, shr_slice_Lawful, mut_slice_Lawful}
 use Rattle.walks.proofs.Lent.{shorter, shorter_mut}
 
 pub data Param : Type 2 where
-  shared : RattleType → Param
+  shared : (R : RattleType) → RowLaws R → Param
   area : RattleType → Param
   value : (R : RattleType) (vals : R.Denot → List Val) → Tells R (Is R) vals → ((x : R.Denot) (vs : List Val) → Is R x vs → Typed R.mir vs) → Param
 
@@ -40,7 +41,7 @@ number w = value (UInt w) (uint_vals w) (uint_Tells w) (number_typed w)
 
 -- ---- their types
 abbrev row : Lft → Param → RattleType
-row κ (shared R) = ShrSlice (named 0) κ R
+row κ (shared R L) = ShrSlice (named 0) κ R
 row κ (area R) = MutSlice (named 0) κ R
 row κ (value R vals tl ty) = R
 
@@ -50,8 +51,8 @@ rows κ (p ∷ ps) = row κ p ∷ rows κ ps
 
 -- ---- their machine values
 abbrev spell : (κ : Lft) (p : Param) → (row κ p).Denot → List Val
-spell κ (shared R) = shr_slice_vals
-spell κ (area R) = shr_slice_vals
+spell κ (shared R L) = shr_slice_vals
+spell κ (area R) = mut_slice_vals
 spell κ (value R vals tl ty) = vals
 
 abbrev pub spells : (κ : Lft) (ps : List Param) → Spells (rows κ ps)
@@ -59,7 +60,7 @@ spells κ [] = tt
 spells κ (p ∷ ps) = (spell κ p, spells κ ps)
 
 tell : (κ : Lft) (p : Param) → Tells (row κ p) (Is (row κ p)) (spell κ p)
-tell κ (shared R) = shr_slice_Tells (named 0) κ R
+tell κ (shared R L) = shr_slice_Tells (named 0) κ R
 tell κ (area R) = mut_slice_Tells (named 0) κ R
 tell κ (value R vals tl ty) = tl
 
@@ -69,7 +70,7 @@ tells κ (p ∷ ps) = (tell κ p, tells κ ps)
 
 module _ {M : Type 1} {𝓤 : Ura M} (𝓛 : Logic 𝓤) where
   lawful : (κ : Lft) (p : Param) → Lawful 𝓛 (row κ p)
-  lawful κ (shared R) = shr_slice_Lawful 𝓛 (named 0) κ R
+  lawful κ (shared R L) = shr_slice_Lawful 𝓛 (named 0) κ R
   lawful κ (area R) = mut_slice_Lawful 𝓛 (named 0) κ R
   lawful κ (value R vals tl ty) = record { typed = ty }
 
@@ -101,7 +102,7 @@ seps (F ∷ Fs) P = fsep F (seps Fs P)
 
 abbrev pub owning : (κ : Lft) (ps : List Param) → Denots (rows κ ps) → List Fml
 owning κ [] a = []
-owning κ (p ∷ ps) a = (row κ p).own a.0 (spell κ p a.0) ∷ owning κ ps a.1
+owning κ (p ∷ ps) a = (row κ p).own_val a.0 (spell κ p a.0) ∷ owning κ ps a.1
 
 abbrev pub Ends : (Rs : List RattleType) → Denots Rs → Type 0
 Ends [] a = Unit {0}
@@ -139,7 +140,7 @@ module _ {M : Type 1} {𝓤 : Ura M} (𝓛 : Logic 𝓤) where
   module _ (κ κ' : Lft) (sooner : Incl κ' κ) where
     -- the same values, at κ'
     abbrev pub at_row : (p : Param) → (row κ p).Denot → (row κ' p).Denot
-    at_row (shared R) x = x
+    at_row (shared R L) x = x
     at_row (area R) x = x
     at_row (value R vals tl ty) x = x
 
@@ -147,16 +148,16 @@ module _ {M : Type 1} {𝓤 : Ura M} (𝓛 : Logic 𝓤) where
     at_rows [] a = tt
     at_rows (p ∷ ps) a = (at_row p a.0, at_rows ps a.1)
 
-    one_shorter : (p : Param) (x : (row κ p).Denot) → ent 𝓤 (sem 𝓛 ((row κ p).own x (spell κ p x))) (sem 𝓛 ((row κ' p).own (at_row p x) (spell κ' p (at_row p x))))
-    one_shorter (shared R) x = shorter 𝓛 R κ κ' sooner x (shr_slice_vals x)
-    one_shorter (area R) x = shorter_mut 𝓛 R κ κ' sooner x (shr_slice_vals x)
+    one_shorter : (p : Param) (x : (row κ p).Denot) → ent 𝓤 (sem 𝓛 ((row κ p).own_val x (spell κ p x))) (sem 𝓛 ((row κ' p).own_val (at_row p x) (spell κ' p (at_row p x))))
+    one_shorter (shared R L) x = shorter 𝓛 R L κ κ' sooner x (shr_slice_vals x)
+    one_shorter (area R) x = shorter_mut 𝓛 R κ κ' sooner x (mut_slice_vals x)
     one_shorter (value R vals tl ty) x = id⊢ 𝓤 _
 
     pub shorter_all : (ps : List Param) (a : Denots (rows κ ps)) → ent 𝓤 (sem 𝓛 (seps (owning κ ps a) ftrue)) (sem 𝓛 (seps (owning κ' ps (at_rows ps a)) ftrue))
     shorter_all [] a = id⊢ 𝓤 (emp 𝓤)
     shorter_all (p ∷ ps) a =
-        qed 𝓛 (‵ (fsep ((row κ p).own a.0 (spell κ p a.0)) (seps (owning κ ps a.1) ftrue)) ∷ []) ∵ fsplit ! $
-        use1 𝓛 (‵ ((row κ' p).own (at_row p a.0) (spell κ' p (at_row p a.0)))) (one_shorter p a.0) $ move ! (1 ∷ []) $
+        qed 𝓛 (‵ (fsep ((row κ p).own_val a.0 (spell κ p a.0)) (seps (owning κ ps a.1) ftrue)) ∷ []) ∵ fsplit ! $
+        use1 𝓛 (‵ ((row κ' p).own_val (at_row p a.0) (spell κ' p (at_row p a.0)))) (one_shorter p a.0) $ move ! (1 ∷ []) $
         use1 𝓛 (‵ (seps (owning κ' ps (at_rows ps a.1)) ftrue)) (shorter_all ps a.1) $ move ! (1 ∷ 0 ∷ []) $ fjoin ! $ done !
 
 module _ {M : Type 1} {𝓤 : Ura M} {K : Type 0} (𝓛 : Logic 𝓤) {Γ : List (Item 𝓤)} {G : Goal 𝓤 𝓛.H} where
