@@ -6,7 +6,7 @@ cd "$(dirname "$0")/.."
 build=$(mktemp -d)
 trap 'rm -rf "$build"' EXIT
 
-if ! rt staticlib export > "$build/log" 2>&1; then
+if ! bash host/archives.sh export > "$build/log" 2>&1; then
     cat "$build/log"
     exit 1
 fi

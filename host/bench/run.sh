@@ -11,7 +11,7 @@ trap 'rm -rf "$build"' EXIT
 
 for archive in export timing; do
     if [ ! -f "$lib/lib$archive.a" ]; then
-        echo "no $lib/lib$archive.a: make it with 'rt staticlib $archive', or set MAZHORUKKU_LIB" >&2
+        echo "no $lib/lib$archive.a: make it with 'bash host/archives.sh $archive', or set MAZHORUKKU_LIB" >&2
         exit 2
     fi
 done

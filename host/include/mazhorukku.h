@@ -1,6 +1,6 @@
 /* mazhorukku.h: the calls of Mazhorukku, a proved hazard simulator for digital circuits, as C functions.
 
-   The functions are in one static archive, which `rt staticlib export` writes to target/staticlib/libexport.a. It needs memcpy
+   The functions are in one static archive, which host/archives.sh writes to target/staticlib/libexport.a. It needs memcpy
    and memset of the C library and nothing else. README.md has the whole story; host/example.c is a program to start from.
 
    WORDS

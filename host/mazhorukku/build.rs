@@ -12,7 +12,7 @@ fn main() {
     println!("cargo:rerun-if-changed={}", archive.display());
     if !archive.is_file() {
         eprintln!(
-            "{} is not there: run `rt staticlib export` first, or set MAZHORUKKU_LIB to the folder that has {ARCHIVE}",
+            "{} is not there: run `bash host/archives.sh export` first, or set MAZHORUKKU_LIB to the folder that has {ARCHIVE}",
             archive.display()
         );
         exit(1);
@@ -21,7 +21,7 @@ fn main() {
     println!("cargo:rustc-link-lib=static=export");
 }
 
-/// `MAZHORUKKU_LIB`, where a relative path counts from this crate's folder; else the place to which `rt` writes.
+/// `MAZHORUKKU_LIB`, where a relative path counts from this crate's folder; else the place to which `host/archives.sh` writes.
 fn folder() -> PathBuf {
     let crate_folder = env::var_os("CARGO_MANIFEST_DIR").expect("cargo sets CARGO_MANIFEST_DIR");
     let named = env::var_os("MAZHORUKKU_LIB").filter(|name| !name.is_empty());

@@ -1,6 +1,7 @@
 // For the benchmark alone, and no part of the product: evaluation by itself, on a plan that stands in the areas. Unlike a call it has a
 // `requires`, which its caller has to keep.
 #![tactic(auto)]
+
 ghost use Rattle.std.specs.Prelude.{◌≡◌, length};
 ghost use Rattle.lists.specs.Areas.{padded};
 ghost use Rattle.method.specs.WordLists.{word_lists, lengths_of};
@@ -8,8 +9,7 @@ ghost use Rattle.circuit.specs.File.{inputs_of, gates_of};
 ghost use Rattle.circuit.specs.Task.{task_of, all_packed_in};
 ghost use Rattle.evaluation.specs.Steps.{Driven, Planned};
 
-#[unsafe(no_mangle)]
-pub extern "C" fn mazh_evaluate(
+pub fn mazh_evaluate(
     file: &[u8],
     counts: &[u8],
     changes: &[u32],

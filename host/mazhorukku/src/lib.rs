@@ -1,7 +1,7 @@
 //! Safe calls of Mazhorukku, a proved hazard simulator for digital circuits.
 //!
 //! A circuit of up to 32 inputs and 128 gates, each with a transport delay and an inertial delay, is simulated in 64 lanes at
-//! once. Everything that is answered comes from the proved calls in the archive that `rt staticlib export` makes; this crate
+//! once. Everything that is answered comes from the proved calls in the archive that `host/archives.sh` makes; this crate
 //! lends them slices. It proves nothing itself, and is tested against another simulator (`tests/differential.rs`).
 //!
 //! - A [`Circuit`] is put together gate by gate, and becomes a circuit file. A file may also come from anywhere: any bytes can

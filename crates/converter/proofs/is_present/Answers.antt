@@ -1,5 +1,4 @@
 -- `converter::is_present` meets its contract. It compares what bytes 0-1 hold.
-use borrow.Author.Rules.{rules}
 use Rattle.converter.proofs.is_present.Goals as goal
 
 pub returns : goal.returns

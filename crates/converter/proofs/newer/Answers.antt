@@ -1,6 +1,5 @@
 -- `converter::newer` meets its contract. The general way, from the former edition to the present one.
 use Rattle.converter.proofs.Both.{newer_answers, writable_present}
-use borrow.Author.Rules.{rules}
 use Rattle.converter.proofs.newer.Goals as goal
 
 pub convert-requires : goal.convert-requires

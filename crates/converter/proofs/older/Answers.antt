@@ -1,6 +1,5 @@
 -- `converter::older` meets its contract. The general way, from the present edition to the former one.
 use Rattle.converter.proofs.Both.{older_answers, writable_former}
-use borrow.Author.Rules.{rules}
 use Rattle.converter.proofs.older.Goals as goal
 
 pub convert-requires : goal.convert-requires

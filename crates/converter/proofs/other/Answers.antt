@@ -1,6 +1,5 @@
 -- `converter::other` meets its contract. Bytes 0-1 decide.
 use Rattle.converter.proofs.Both.{other_older, other_newer}
-use borrow.Author.Rules.{rules}
 use Rattle.converter.proofs.other.Goals as goal
 
 pub returns-then-is_present : goal.returns-then-is_present

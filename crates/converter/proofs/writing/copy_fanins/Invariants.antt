@@ -1,8 +1,7 @@
 -- `converter::copy_fanins` meets its contract. The loop's invariant: the entries from the i-th on are still to be stored.
 use Prim.Native.Nat.{◌≤◌, ◌-◌}
 use Rattle.editions.specs.File.{fanin_at}
-use Rattle.converter.proofs.Rewriting.{Copying, copy_none, copy_more, copy_all}
-use borrow.Author.Rules.{rules}
+use Rattle.converter.proofs.Rewriting.{Copying}
 use Rattle.converter.proofs.writing.copy_fanins.Given as goal
 
 abbrev pub invariant-loop-i : goal.invariant-loop-i

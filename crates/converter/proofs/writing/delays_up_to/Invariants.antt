@@ -1,13 +1,10 @@
 -- `converter::delays_up_to` meets its contract. The loop's invariant: the answer for all gates is the answer for those from gate j on.
 use Prim.Native.Nat.{◌≤◌, ◌-◌}
 use mathlib.Core.Path.{◌≡◌}
-use native.Mathlib.Nat.{sub-zero}
 use Rattle.lists.specs.Tables.{tabulate}
 use Rattle.editions.specs.File.{gate_of}
 use Rattle.converter.specs.Convert.{delays_up_to}
 use Rattle.converter.specs.Steps.{gates_in}
-use Rattle.converter.proofs.Rewriting.{delay_high, inertial_high, low_next, low_end}
-use borrow.Author.Rules.{rules}
 use Rattle.converter.proofs.writing.delays_up_to.Given as goal
 
 abbrev pub invariant-loop-j : goal.invariant-loop-j

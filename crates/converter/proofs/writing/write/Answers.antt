@@ -1,7 +1,6 @@
 -- `converter::write` meets its contract. The counts, the pairs and the records, in a cleared area.
 use native.Mathlib.Omega.{arith}
 use Rattle.converter.proofs.Rewriting.{all_fit, wrote_file}
-use borrow.Author.Rules.{rules}
 use Rattle.converter.proofs.writing.write.Goals as goal
 
 pub overflow_add-inputs : goal.overflow_add-inputs

@@ -1,8 +1,6 @@
 -- `converter::write_pairs` meets its contract. The loop's invariant: the pairs from gate j on are still to be stored.
-use Prim.Native.Nat.{◌-◌}
 use native.Mathlib.Omega.{arith}
-use Rattle.converter.proofs.Rewriting.{record_few, head_few, Pairing, pairing_none, pairing_more, pairing_all}
-use borrow.Author.Rules.{rules}
+use Rattle.converter.proofs.Rewriting.{record_few, head_few, pairing_none, pairing_more, pairing_all}
 use Rattle.converter.proofs.writing.write_pairs.Goals as goal
 
 pub overflow_mul-start : goal.overflow_mul-start

@@ -1,7 +1,6 @@
 -- `converter::write_record` meets its contract. The head of the record, then its fan-ins.
 use native.Mathlib.Omega.{arith}
 use Rattle.converter.proofs.Rewriting.{record_few, head_few, wrote_record, record_small}
-use borrow.Author.Rules.{rules}
 use Rattle.converter.proofs.writing.write_record.Goals as goal
 
 pub gate_at-gate-requires : goal.gate_at-gate-requires

@@ -1,8 +1,6 @@
 -- `converter::write_records` meets its contract. The loop's invariant: the records from gate j on are still to be stored, from the place reached on.
 use Prim.Native.Nat.{◌-◌}
-use native.Mathlib.Omega.{arith}
-use Rattle.converter.proofs.Rewriting.{Recording, recording_none, recording_more, recording_all, some_fit}
-use borrow.Author.Rules.{rules}
+use Rattle.converter.proofs.Rewriting.{Recording}
 use Rattle.converter.proofs.writing.write_records.Given as goal
 
 abbrev pub invariant-loop-j : goal.invariant-loop-j
