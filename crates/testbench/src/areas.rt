@@ -7,6 +7,7 @@ use crate::head::{
 use crate::input::limited;
 use crate::print::show_number;
 use method::Tick;
+use std::io::{Eprint, Print};
 
 pub fn rubbish_directory(rubbish: u16) -> [u16; 400]
     ensures { 400 ≡ length result }
@@ -95,6 +96,7 @@ pub(crate) fn tick_of(low: u16, high: u16) -> Tick {
 
 // The arrays hold the areas in front; how long the areas are stands in the head.
 pub fn show_sums(
+    rt: &(impl Print + Eprint),
     head: Head,
     directory: &[u16; 400],
     times: &[Tick; 2100],
@@ -102,25 +104,26 @@ pub fn show_sums(
     fanins: &[u16; 16400],
     values: &[u64; 2100],
 ) {
-    show_plan_sums(head, directory, times, inertial, fanins);
-    show_words_sum(&values[..], values_length(head));
+    show_plan_sums(rt, head, directory, times, inertial, fanins);
+    show_words_sum(rt, &values[..], values_length(head));
 }
 
 pub fn show_plan_sums(
+    rt: &(impl Print + Eprint),
     head: Head,
     directory: &[u16; 400],
     times: &[Tick; 2100],
     inertial: &[u16; 2100],
     fanins: &[u16; 16400],
 ) {
-    show_sum(&directory[..], directory_length(head));
-    show_ticks_sum(&times[..], times_length(head));
-    show_sum(&inertial[..], inertial_length(head));
-    show_sum(&fanins[..], fanins_length(head));
+    show_sum(rt, &directory[..], directory_length(head));
+    show_ticks_sum(rt, &times[..], times_length(head));
+    show_sum(rt, &inertial[..], inertial_length(head));
+    show_sum(rt, &fanins[..], fanins_length(head));
 }
 
 // Of the first numbers, as many as the count says.
-fn show_sum(numbers: &[u16], count: usize) {
+fn show_sum(rt: &(impl Print + Eprint), numbers: &[u16], count: usize) {
     let end = limited(count, numbers.len());
     let mut sum: u64 = 0;
     let mut k = 0;
@@ -128,10 +131,10 @@ fn show_sum(numbers: &[u16], count: usize) {
         sum = with_number(sum, wide(numbers[k]));
         k += 1;
     }
-    show_number(sum);
+    show_number(rt, sum);
 }
 
-fn show_ticks_sum(times: &[Tick], count: usize) {
+fn show_ticks_sum(rt: &(impl Print + Eprint), times: &[Tick], count: usize) {
     let end = limited(count, times.len());
     let mut sum: u64 = 0;
     let mut k = 0;
@@ -139,10 +142,10 @@ fn show_ticks_sum(times: &[Tick], count: usize) {
         sum = with_tick(sum, wide_tick(times[k]));
         k += 1;
     }
-    show_number(sum);
+    show_number(rt, sum);
 }
 
-fn show_words_sum(words: &[u64], count: usize) {
+fn show_words_sum(rt: &(impl Print + Eprint), words: &[u64], count: usize) {
     let end = limited(count, words.len());
     let mut sum: u64 = 0;
     let mut k = 0;
@@ -150,7 +153,7 @@ fn show_words_sum(words: &[u64], count: usize) {
         sum = with_word(sum, words[k]);
         k += 1;
     }
-    show_number(sum);
+    show_number(rt, sum);
 }
 
 fn with_tick(sum: u64, tick: u64) -> u64 {
