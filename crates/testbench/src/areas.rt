@@ -51,31 +51,25 @@ pub fn rubbish_values(rubbish: u16) -> [u64; 2100]
 
 fn fill(area: &mut [u16], rubbish: u16) {
     let mut entry = rubbish;
-    let mut k = 0;
-    while k < area.len() {
-        area[k] = entry;
-        entry = std::num::wrapping_add_u16(entry, 257);
-        k += 1;
+    for place in area {
+        *place = entry;
+        entry = entry.wrapping_add(257);
     }
 }
 
 fn fill_ticks(times: &mut [Tick], rubbish: u16) {
     let mut entry = rubbish;
-    let mut k = 0;
-    while k < times.len() {
-        times[k] = tick_of(entry, entry);
-        entry = std::num::wrapping_add_u16(entry, 257);
-        k += 1;
+    for time in times {
+        *time = tick_of(entry, entry);
+        entry = entry.wrapping_add(257);
     }
 }
 
 fn fill_words(values: &mut [u64], rubbish: u16) {
     let mut entry = rubbish;
-    let mut k = 0;
-    while k < values.len() {
-        values[k] = wide(entry) * 281479271743489;
-        entry = std::num::wrapping_add_u16(entry, 257);
-        k += 1;
+    for word in values {
+        *word = wide(entry) * 281479271743489;
+        entry = entry.wrapping_add(257);
     }
 }
 
@@ -126,10 +120,8 @@ pub fn show_plan_sums(
 fn show_sum(rt: &(impl Print + Eprint), numbers: &[u16], count: usize) {
     let end = limited(count, numbers.len());
     let mut sum: u64 = 0;
-    let mut k = 0;
-    while k < end {
-        sum = with_number(sum, wide(numbers[k]));
-        k += 1;
+    for number in &numbers[..end] {
+        sum = with_number(sum, wide(*number));
     }
     show_number(rt, sum);
 }
@@ -137,10 +129,8 @@ fn show_sum(rt: &(impl Print + Eprint), numbers: &[u16], count: usize) {
 fn show_ticks_sum(rt: &(impl Print + Eprint), times: &[Tick], count: usize) {
     let end = limited(count, times.len());
     let mut sum: u64 = 0;
-    let mut k = 0;
-    while k < end {
-        sum = with_tick(sum, wide_tick(times[k]));
-        k += 1;
+    for time in &times[..end] {
+        sum = with_tick(sum, wide_tick(*time));
     }
     show_number(rt, sum);
 }
@@ -148,10 +138,8 @@ fn show_ticks_sum(rt: &(impl Print + Eprint), times: &[Tick], count: usize) {
 fn show_words_sum(rt: &(impl Print + Eprint), words: &[u64], count: usize) {
     let end = limited(count, words.len());
     let mut sum: u64 = 0;
-    let mut k = 0;
-    while k < end {
-        sum = with_word(sum, words[k]);
-        k += 1;
+    for word in &words[..end] {
+        sum = with_word(sum, *word);
     }
     show_number(rt, sum);
 }

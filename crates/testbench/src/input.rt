@@ -40,10 +40,8 @@ pub fn ticks_of(bytes: &[u8], at: usize) -> [Tick; 400]
     requires { at ≤ 65535 }
 {
     let mut row: [Tick; 400] = [0; 400];
-    let mut k = 0;
-    while k < 400 {
+    for k in 0..400 {
         row[k] = tick_at_byte(bytes, at + 4 * k);
-        k += 1;
     }
     row
 }
@@ -86,10 +84,8 @@ pub fn words_of(bytes: &[u8], at: usize) -> [u64; 400]
     requires { at ≤ 65535 }
 {
     let mut words = [0u64; 400];
-    let mut k = 0;
-    while k < 400 {
+    for k in 0..400 {
         words[k] = numbers::word_at_byte(bytes, at + 8 * k);
-        k += 1;
     }
     words
 }
