@@ -2,6 +2,7 @@
 use crate::nets::{Look, show_net};
 use crate::print::{show_planning, show_reading};
 use method::Tick;
+use std::io::{Eprint, Input, Print};
 use testbench::{
     Head, after_count, before_count, changes_length, counts_length, directory_length, end_line,
     fanins_length, file_length, inertial_length, limit_of, read_case, rubbish_directory,
@@ -10,8 +11,8 @@ use testbench::{
 };
 
 // False where the case is cut short or too large, and nothing is printed; and where its line cannot be written.
-pub(crate) fn circuit_case(look: Look) -> bool {
-    let case = read_case();
+pub(crate) fn circuit_case(rt: &(impl Input + Print + Eprint), look: Look) -> bool {
+    let case = read_case(rt);
     if !case.whole {
         return false;
     }
@@ -21,10 +22,11 @@ pub(crate) fn circuit_case(look: Look) -> bool {
     let changes = case.changes;
     let before = case.before;
     let after = case.after;
-    show_line(head, look, file, counts, changes, before, after)
+    show_line(rt, head, look, file, counts, changes, before, after)
 }
 
 fn show_line(
+    rt: &(impl Print + Eprint),
     head: Head,
     look: Look,
     file: [u8; 70000],
@@ -38,21 +40,22 @@ fn show_line(
     let c = &changes[0..changes_length(head)];
     let b = &before[0..before_count(head)];
     let a = &after[0..after_count(head)];
-    show_reading(circuit::read(f));
-    show_semicolon();
-    plan_case(head, f, n, c);
-    show_semicolon();
-    questions_case(head, f, n, c, b, a);
-    show_semicolon();
-    run_case(head, look, f, n, c, b, a);
-    end_line()
+    show_reading(rt, circuit::read(f));
+    show_semicolon(rt);
+    plan_case(rt, head, f, n, c);
+    show_semicolon(rt);
+    questions_case(rt, head, f, n, c, b, a);
+    show_semicolon(rt);
+    run_case(rt, head, look, f, n, c, b, a);
+    end_line(rt)
 }
 
 // In these functions d, t, i, f and v are the areas: directory, times, inertial, fan-ins and values. Plan is not lent the
 // values.
-fn plan_case(head: Head, file: &[u8], counts: &[u8], changes: &[Tick]) {
+fn plan_case(rt: &(impl Print + Eprint), head: Head, file: &[u8], counts: &[u8], changes: &[Tick]) {
     let r = rubbish_of(head);
     plan_in(
+        rt,
         head,
         file,
         counts,
@@ -65,6 +68,7 @@ fn plan_case(head: Head, file: &[u8], counts: &[u8], changes: &[Tick]) {
 }
 
 fn plan_in(
+    rt: &(impl Print + Eprint),
     head: Head,
     file: &[u8],
     counts: &[u8],
@@ -74,21 +78,25 @@ fn plan_in(
     mut i: [u16; 2100],
     mut f: [u16; 16400],
 ) {
-    show_planning(planner::plan(
-        file,
-        counts,
-        changes,
-        limit_of(head),
-        &mut d[0..directory_length(head)],
-        &mut t[0..times_length(head)],
-        &mut i[0..inertial_length(head)],
-        &mut f[0..fanins_length(head)],
-    ));
-    show_plan_sums(head, &d, &t, &i, &f);
+    show_planning(
+        rt,
+        planner::plan(
+            file,
+            counts,
+            changes,
+            limit_of(head),
+            &mut d[0..directory_length(head)],
+            &mut t[0..times_length(head)],
+            &mut i[0..inertial_length(head)],
+            &mut f[0..fanins_length(head)],
+        ),
+    );
+    show_plan_sums(rt, head, &d, &t, &i, &f);
 }
 
 // The questions are lent the areas to be read only, so that there is nothing left to be seen in them.
 fn questions_case(
+    rt: &(impl Print + Eprint),
     head: Head,
     file: &[u8],
     counts: &[u8],
@@ -101,21 +109,25 @@ fn questions_case(
     let i = [0u16; 2100];
     let f = [0u16; 16400];
     let v = [0u64; 2100];
-    show_reading(engine::questions(
-        file,
-        counts,
-        changes,
-        &d[0..directory_length(head)],
-        &t[0..times_length(head)],
-        &i[0..inertial_length(head)],
-        &f[0..fanins_length(head)],
-        &v[0..values_length(head)],
-        before,
-        after,
-    ));
+    show_reading(
+        rt,
+        engine::questions(
+            file,
+            counts,
+            changes,
+            &d[0..directory_length(head)],
+            &t[0..times_length(head)],
+            &i[0..inertial_length(head)],
+            &f[0..fanins_length(head)],
+            &v[0..values_length(head)],
+            before,
+            after,
+        ),
+    );
 }
 
 fn run_case(
+    rt: &(impl Print + Eprint),
     head: Head,
     look: Look,
     file: &[u8],
@@ -126,6 +138,7 @@ fn run_case(
 ) {
     let r = rubbish_of(head);
     run_in(
+        rt,
         head,
         look,
         file,
@@ -142,6 +155,7 @@ fn run_case(
 }
 
 fn run_in(
+    rt: &(impl Print + Eprint),
     head: Head,
     look: Look,
     file: &[u8],
@@ -155,24 +169,28 @@ fn run_in(
     mut f: [u16; 16400],
     mut v: [u64; 2100],
 ) {
-    let ran = show_planning(engine::run(
-        file,
-        counts,
-        changes,
-        limit_of(head),
-        &mut d[0..directory_length(head)],
-        &mut t[0..times_length(head)],
-        &mut i[0..inertial_length(head)],
-        &mut f[0..fanins_length(head)],
-        &mut v[0..values_length(head)],
-        before,
-        after,
-    ));
-    show_left(ran, head, look, &d, &t, &i, &f, &v);
+    let ran = show_planning(
+        rt,
+        engine::run(
+            file,
+            counts,
+            changes,
+            limit_of(head),
+            &mut d[0..directory_length(head)],
+            &mut t[0..times_length(head)],
+            &mut i[0..inertial_length(head)],
+            &mut f[0..fanins_length(head)],
+            &mut v[0..values_length(head)],
+            before,
+            after,
+        ),
+    );
+    show_left(rt, ran, head, look, &d, &t, &i, &f, &v);
 }
 
 // Prints the sums of what Run left, and where there was a run what is seen of the net.
 fn show_left(
+    rt: &(impl Print + Eprint),
     ran: bool,
     head: Head,
     look: Look,
@@ -182,8 +200,8 @@ fn show_left(
     f: &[u16; 16400],
     v: &[u64; 2100],
 ) {
-    show_sums(head, d, t, i, f, v);
+    show_sums(rt, head, d, t, i, f, v);
     if ran {
-        show_net(head, look, d, t, v);
+        show_net(rt, head, look, d, t, v);
     }
 }

@@ -18,46 +18,46 @@
 // `cut` and stops, and so it does where it cannot read or write on, which standard error then says. Level and Count on parts
 // that no run made have a program of their own, parts, and so has Mark, marks.
 #![tactic(auto)]
+
 mod circuits;
 mod nets;
 mod print;
 
 use circuits::circuit_case;
 use nets::look_of;
+use std::io::{Eprint, Input, Print};
 use testbench::show_cut;
 
 // No input has as many cases as there are turns: each takes 6 bytes or more.
-fn main() {
-    let mut turns: u64 = 0;
-    while turns < 18446744073709551615 {
-        if !next_case() {
+fn main(rt: HostRuntime) {
+    for _ in 0..u64::MAX {
+        if !next_case(&rt) {
             return;
         }
-        turns += 1;
     }
 }
 
 // One case. False where the program stops.
-fn next_case() -> bool {
+fn next_case(rt: &(impl Input + Print + Eprint)) -> bool {
     let mut look = [0u8; 6];
-    let received = streams::read_input(&mut look);
+    let received = streams::read_input(rt, &mut look);
     if received.failed {
-        return cut();
+        return cut(rt);
     }
     let got = received.count;
     if got == 0 {
         return false;
     }
     if got < 6 {
-        return cut();
+        return cut(rt);
     }
-    if !circuit_case(look_of(look)) {
-        return cut();
+    if !circuit_case(rt, look_of(look)) {
+        return cut(rt);
     }
     true
 }
 
-fn cut() -> bool {
-    show_cut();
+fn cut(rt: &(impl Print + Eprint)) -> bool {
+    show_cut(rt);
     false
 }

@@ -4,6 +4,7 @@ ghost use Rattle.std.specs.Prelude.{◌≤◌};
 use crate::print::{bit, show_frame};
 use looks::{Counted, Seen};
 use method::{Net, Tick, Time};
+use std::io::{Eprint, Print};
 use testbench::{
     Head, Span, directory_length, show_number, show_refused, show_semicolon, span_of, tick_at_byte,
     with_number,
@@ -25,6 +26,7 @@ pub(crate) fn look_of(bytes: [u8; 6]) -> Look {
 
 // Prints what is seen of the net after a run. The arrays hold the areas in front.
 pub(crate) fn show_net(
+    rt: &(impl Print + Eprint),
     head: Head,
     look: Look,
     directory: &[u16; 400],
@@ -34,8 +36,9 @@ pub(crate) fn show_net(
     let d = &directory[..];
     let net = look.net;
     let time = look.time;
-    show_semicolon();
+    show_semicolon(rt);
     show_frames(
+        rt,
         times,
         values,
         span_of(&d[0..directory_length(head)], net, 2048),
@@ -43,35 +46,39 @@ pub(crate) fn show_net(
     );
 }
 
-fn show_frames(times: &[Tick; 2100], values: &[u64; 2100], span: Span, time: Time)
+fn show_frames(
+    rt: &(impl Print + Eprint),
+    times: &[Tick; 2100],
+    values: &[u64; 2100],
+    span: Span,
+    time: Time,
+)
     requires { (span.first ≤ span.end) × (span.end ≤ 2048) }
 {
     let t = &times[..];
     let v = &values[..];
     let first = span.first;
     let end = span.end;
-    show_lanes(&t[first..end], &v[first..end], time);
+    show_lanes(rt, &t[first..end], &v[first..end], time);
 }
 
 // Prints the level at the time in all lanes, the frame that lane 63 has there, and a sum of the lanes' counts.
-fn show_lanes(times: &[Tick], values: &[u64], time: Time) {
+fn show_lanes(rt: &(impl Print + Eprint), times: &[Tick], values: &[u64], time: Time) {
     match looks::level(times, values, 63, time) {
         Seen::Level(seen) => {
-            streams::write_hex(levels_of(times, values, time), 16);
-            show_frame(seen);
-            show_number(counts_of(times, values));
+            streams::write_hex(rt, levels_of(times, values, time), 16);
+            show_frame(rt, seen);
+            show_number(rt, counts_of(times, values));
         }
-        Seen::Refused(number) => show_refused(number),
+        Seen::Refused(number) => show_refused(rt, number),
     }
 }
 
 // Bit L is the level of lane L.
 fn levels_of(times: &[Tick], values: &[u64], time: Time) -> u64 {
     let mut word: u64 = 0;
-    let mut left: u8 = 64;
-    while 0 < left {
-        left -= 1;
-        word = word << 1 | bit_of(looks::level(times, values, left, time));
+    for lane in (0..64).rev() {
+        word = word << 1 | bit_of(looks::level(times, values, lane, time));
     }
     word
 }
@@ -85,10 +92,8 @@ fn bit_of(answer: Seen) -> u64 {
 
 fn counts_of(times: &[Tick], values: &[u64]) -> u64 {
     let mut sum: u64 = 0;
-    let mut lane: u8 = 0;
-    while lane < 64 {
+    for lane in 0..64 {
         sum = with_number(sum, changes_of(looks::count(times, values, lane)));
-        lane += 1;
     }
     sum
 }

@@ -10,9 +10,11 @@
 // The program stops at the end of the input. At another first byte, at a case that is cut short and at one that its buffers do
 // not hold it prints `cut` and stops, and so it does where it cannot read or write on, which standard error then says.
 #![tactic(auto)]
+
 ghost use Rattle.std.specs.Prelude.{◌≡◌, ◌≤◌, length};
 
 use converter::Conversion;
+use std::io::{Eprint, Input, Print};
 use testbench::{
     end_line, limited, read_all, show_cut, show_number, show_refused, wide, with_number,
 };
@@ -21,48 +23,46 @@ use testbench::{
 type Head = [u8; 7];
 
 // No input has as many cases as there are turns.
-fn main() {
-    let mut turns: u64 = 0;
-    while turns < 18446744073709551615 {
-        if !next_case() {
+fn main(rt: HostRuntime) {
+    for _ in 0..u64::MAX {
+        if !next_case(&rt) {
             return;
         }
-        turns += 1;
     }
 }
 
 // One case. False where the program stops.
-fn next_case() -> bool {
+fn next_case(rt: &(impl Input + Print + Eprint)) -> bool {
     let mut first = [0u8; 1];
-    let received = streams::read_input(&mut first);
+    let received = streams::read_input(rt, &mut first);
     if received.failed {
-        show_cut();
+        show_cut(rt);
         return false;
     }
     if received.count == 0 {
         return false;
     }
-    let shown = convert_case(first[0]);
+    let shown = convert_case(rt, first[0]);
     if !shown {
-        show_cut();
+        show_cut(rt);
     }
     shown
 }
 
 // False where the case is none, is cut short or too large, and nothing is printed; and where its line cannot be written.
-fn convert_case(call: u8) -> bool {
+fn convert_case(rt: &(impl Input + Print + Eprint), call: u8) -> bool {
     let mut head = [0u8; 7];
-    if !read_all(&mut head) {
+    if !read_all(rt, &mut head) {
         return false;
     }
     if !is_held(call, head) {
         return false;
     }
     let mut file = [0u8; 70000];
-    if !read_all(&mut file[0..file_length(head)]) {
+    if !read_all(rt, &mut file[0..file_length(head)]) {
         return false;
     }
-    show_case(call, head, file)
+    show_case(rt, call, head, file)
 }
 
 fn is_held(call: u8, head: Head) -> bool {
@@ -105,28 +105,27 @@ fn rubbish_area(rubbish: u8) -> [u8; 5000]
 
 fn fill(area: &mut [u8], rubbish: u8) {
     let mut byte = rubbish;
-    let mut k = 0;
-    while k < area.len() {
-        area[k] = byte;
-        byte = std::num::wrapping_add_u8(byte, 7);
-        k += 1;
+    for place in area {
+        *place = byte;
+        byte = byte.wrapping_add(7);
     }
 }
 
 // Makes the call and prints its line.
-fn show_case(call: u8, head: Head, file: [u8; 70000]) -> bool {
+fn show_case(rt: &(impl Print + Eprint), call: u8, head: Head, file: [u8; 70000]) -> bool {
     let mut area = rubbish_area(head[6]);
     show_line(
+        rt,
         call,
         &file[0..file_length(head)],
         &mut area[0..area_length(head)],
     )
 }
 
-fn show_line(call: u8, file: &[u8], area: &mut [u8]) -> bool {
-    show_conversion(converted(call, file, area));
-    show_sum(area);
-    end_line()
+fn show_line(rt: &(impl Print + Eprint), call: u8, file: &[u8], area: &mut [u8]) -> bool {
+    show_conversion(rt, converted(call, file, area));
+    show_sum(rt, area);
+    end_line(rt)
 }
 
 fn converted(call: u8, file: &[u8], area: &mut [u8]) -> Conversion {
@@ -137,22 +136,20 @@ fn converted(call: u8, file: &[u8], area: &mut [u8]) -> Conversion {
     }
 }
 
-fn show_conversion(answer: Conversion) {
+fn show_conversion(rt: &(impl Print + Eprint), answer: Conversion) {
     match answer {
         Conversion::Written(length) => {
-            streams::write_output(b"written");
-            show_number(length as u64);
+            streams::write_output(rt, b"written");
+            show_number(rt, length as u64);
         }
-        Conversion::Refused(number) => show_refused(number),
+        Conversion::Refused(number) => show_refused(rt, number),
     }
 }
 
-fn show_sum(bytes: &[u8]) {
+fn show_sum(rt: &(impl Print + Eprint), bytes: &[u8]) {
     let mut sum: u64 = 0;
-    let mut k = 0;
-    while k < bytes.len() {
-        sum = with_number(sum, wide(bytes[k]) as u64);
-        k += 1;
+    for byte in bytes {
+        sum = with_number(sum, wide(*byte) as u64);
     }
-    show_number(sum);
+    show_number(rt, sum);
 }

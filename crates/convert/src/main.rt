@@ -2,43 +2,51 @@
 // that it is not of, or `refused` and a number. Standard error says which way it went. Where the input cannot be read it writes
 // nothing, and standard error says why.
 #![tactic(auto)]
+
 use converter::Conversion;
+use std::io::{Eprint, Print, Stderr};
 
 // Offset and length of a record add up to 131,070 at most, so a longer file is refused; one byte more is read, which is enough to
 // tell (`Long` in converter/specs/Conversions).
-fn main() {
+fn main(rt: HostRuntime) {
     let mut input = [0u8; 131071];
-    let received = streams::read_input(&mut input);
+    let received = streams::read_input(&rt, &mut input);
     if received.failed {
         return;
     }
     let n = received.count;
-    convert(&input[..n]);
+    convert(&rt, rt.stderr(), &input[..n]);
 }
 
 // Writes the file in the other edition, or the number of the refusal.
-fn convert(file: &[u8]) {
+fn convert(rt: &(impl Print + Eprint), stderr: Stderr, file: &[u8]) {
     let mut area = [0u8; filing::AREA_LENGTH];
-    say_way(converter::is_present(file));
+    say_way(stderr, converter::is_present(file));
     match converter::other(file, &mut area) {
         Conversion::Written(length) => {
             let n = length as usize;
-            streams::write_output(&area[..n]);
+            streams::write_output(rt, &area[..n]);
         }
-        Conversion::Refused(number) => show_refused(number),
+        Conversion::Refused(number) => show_refused(rt, number),
     }
 }
 
-fn say_way(from_present: bool) {
+fn say_way(stderr: Stderr, from_present: bool) {
     if from_present {
-        streams::say(b"from the present edition (picoseconds) to the former one\n");
+        streams::say(
+            stderr,
+            b"from the present edition (picoseconds) to the former one\n",
+        );
     } else {
-        streams::say(b"from the former edition to the present one (picoseconds)\n");
+        streams::say(
+            stderr,
+            b"from the former edition to the present one (picoseconds)\n",
+        );
     }
 }
 
-fn show_refused(number: u8) {
-    streams::write_output(b"refused ");
-    streams::write_decimal(number as u64);
-    streams::write_output(b"\n");
+fn show_refused(rt: &(impl Print + Eprint), number: u8) {
+    streams::write_output(rt, b"refused ");
+    streams::write_decimal(rt, number as u64);
+    streams::write_output(rt, b"\n");
 }

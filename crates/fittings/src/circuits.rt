@@ -1,6 +1,7 @@
 // A case: a circuit with its change times and its words, and the two calls on it.
 use method::Tick;
 use sizes::Planning;
+use std::io::{Eprint, Print};
 use testbench::{
     Case, Head, after_count, before_count, changes_length, counts_length, directory_length,
     end_line, fanins_length, file_length, inertial_length, limit_of, rubbish_directory,
@@ -9,7 +10,7 @@ use testbench::{
 };
 
 // False where the case is cut short or too large, and nothing is printed; and where its line cannot be written.
-pub(crate) fn circuit_case(case: Case) -> bool {
+pub(crate) fn circuit_case(rt: &(impl Print + Eprint), case: Case) -> bool {
     if !case.whole {
         return false;
     }
@@ -19,10 +20,11 @@ pub(crate) fn circuit_case(case: Case) -> bool {
     let changes = case.changes;
     let before = case.before;
     let after = case.after;
-    show_line(head, file, counts, changes, before, after)
+    show_line(rt, head, file, counts, changes, before, after)
 }
 
 fn show_line(
+    rt: &(impl Print + Eprint),
     head: Head,
     file: [u8; 70000],
     counts: [u8; 80],
@@ -35,20 +37,21 @@ fn show_line(
     let c = &changes[0..changes_length(head)];
     let b = &before[0..before_count(head)];
     let a = &after[0..after_count(head)];
-    show_planning(sizes::size(f, n, c, limit_of(head)));
-    show_semicolon();
-    run_case(head, f, n, c, b, a);
-    end_line()
+    show_planning(rt, sizes::size(f, n, c, limit_of(head)));
+    show_semicolon(rt);
+    run_case(rt, head, f, n, c, b, a);
+    end_line(rt)
 }
 
-fn show_planning(answer: Planning) {
+fn show_planning(rt: &(impl Print + Eprint), answer: Planning) {
     match answer {
-        Planning::Planned(totals) => show_totals(totals),
-        Planning::Refused(number) => show_refused(number),
+        Planning::Planned(totals) => show_totals(rt, totals),
+        Planning::Refused(number) => show_refused(rt, number),
     }
 }
 
 fn run_case(
+    rt: &(impl Print + Eprint),
     head: Head,
     file: &[u8],
     counts: &[u8],
@@ -58,6 +61,7 @@ fn run_case(
 ) {
     let r = rubbish_of(head);
     run_in(
+        rt,
         head,
         file,
         counts,
@@ -74,6 +78,7 @@ fn run_case(
 
 // Here d, t, i, f and v are the areas: directory, times, inertial, fan-ins and values.
 fn run_in(
+    rt: &(impl Print + Eprint),
     head: Head,
     file: &[u8],
     counts: &[u8],
@@ -86,18 +91,21 @@ fn run_in(
     mut f: [u16; 16400],
     mut v: [u64; 2100],
 ) {
-    show_planning(sizes::run_fitted(
-        file,
-        counts,
-        changes,
-        limit_of(head),
-        &mut d[0..directory_length(head)],
-        &mut t[0..times_length(head)],
-        &mut i[0..inertial_length(head)],
-        &mut f[0..fanins_length(head)],
-        &mut v[0..values_length(head)],
-        before,
-        after,
-    ));
-    show_sums(head, &d, &t, &i, &f, &v);
+    show_planning(
+        rt,
+        sizes::run_fitted(
+            file,
+            counts,
+            changes,
+            limit_of(head),
+            &mut d[0..directory_length(head)],
+            &mut t[0..times_length(head)],
+            &mut i[0..inertial_length(head)],
+            &mut f[0..fanins_length(head)],
+            &mut v[0..values_length(head)],
+            before,
+            after,
+        ),
+    );
+    show_sums(rt, head, &d, &t, &i, &f, &v);
 }

@@ -10,37 +10,37 @@
 // The program stops at the end of the input. At a case that is cut short and at one that its buffers do not hold it prints
 // `cut` and stops, and so it does where it cannot read or write on, which standard error then says.
 #![tactic(auto)]
+
 mod circuits;
 
 use circuits::circuit_case;
+use std::io::{Eprint, Input, Print};
 use testbench::{case_of, show_cut};
 
 // No input has as many cases as there are turns.
-fn main() {
-    let mut turns: u64 = 0;
-    while turns < 18446744073709551615 {
-        if !next_case() {
+fn main(rt: HostRuntime) {
+    for _ in 0..u64::MAX {
+        if !next_case(&rt) {
             return;
         }
-        turns += 1;
     }
 }
 
 // One case. False where the program stops.
-fn next_case() -> bool {
+fn next_case(rt: &(impl Input + Print + Eprint)) -> bool {
     let mut head = [0u8; 24];
-    let received = streams::read_input(&mut head);
+    let received = streams::read_input(rt, &mut head);
     if received.failed {
-        show_cut();
+        show_cut(rt);
         return false;
     }
     let got = received.count;
     if got == 0 {
         return false;
     }
-    let shown = circuit_case(case_of(head, got == 24));
+    let shown = circuit_case(rt, case_of(rt, head, got == 24));
     if !shown {
-        show_cut();
+        show_cut(rt);
     }
     shown
 }

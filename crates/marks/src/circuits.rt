@@ -5,6 +5,7 @@ use crate::listing::{list_of, show_marking};
 use marking::Expectation;
 use method::Tick;
 use records::mark_first;
+use std::io::{Eprint, Input, Print};
 use testbench::{
     Case, Head, after_count, before_count, changes_length, counts_length, directory_length,
     end_line, fanins_length, file_length, inertial_length, limit_of, limited, read_all, read_case,
@@ -13,21 +14,21 @@ use testbench::{
 };
 
 // False where the case is cut short or too large, and nothing is printed; and where its line cannot be written.
-pub(crate) fn circuit_case(expected: u8) -> bool {
+pub(crate) fn circuit_case(rt: &(impl Input + Print + Eprint), expected: u8) -> bool {
     if 12 < expected {
         return false;
     }
-    let case = read_case();
+    let case = read_case(rt);
     if !case.whole {
         return false;
     }
     let mut records = [0u8; 144];
-    with_records(case, &mut records[0..12 * limited(wide(expected), 12)])
+    with_records(rt, case, &mut records[0..12 * limited(wide(expected), 12)])
 }
 
 // Fills the records from the input, and prints the line.
-fn with_records(case: Case, records: &mut [u8]) -> bool {
-    if !read_all(records) {
+fn with_records(rt: &(impl Input + Print + Eprint), case: Case, records: &mut [u8]) -> bool {
+    if !read_all(rt, records) {
         return false;
     }
     let head = case.head;
@@ -37,6 +38,7 @@ fn with_records(case: Case, records: &mut [u8]) -> bool {
     let before = case.before;
     let after = case.after;
     show_line(
+        rt,
         head,
         file,
         counts,
@@ -49,6 +51,7 @@ fn with_records(case: Case, records: &mut [u8]) -> bool {
 }
 
 fn show_line(
+    rt: &(impl Print + Eprint),
     head: Head,
     file: [u8; 70000],
     counts: [u8; 80],
@@ -59,6 +62,7 @@ fn show_line(
     count: usize,
 ) -> bool {
     mark_case(
+        rt,
         head,
         &file[0..file_length(head)],
         &counts[0..counts_length(head)],
@@ -68,10 +72,11 @@ fn show_line(
         list,
         limited(count, 12),
     );
-    end_line()
+    end_line(rt)
 }
 
 fn mark_case<'a>(
+    rt: &(impl Print + Eprint),
     head: Head,
     file: &'a [u8],
     counts: &'a [u8],
@@ -85,6 +90,7 @@ fn mark_case<'a>(
 {
     let r = rubbish_of(head);
     mark_in(
+        rt,
         head,
         file,
         counts,
@@ -103,6 +109,7 @@ fn mark_case<'a>(
 
 // Here d, t, i, f and v are the areas: directory, times, inertial, fan-ins and values.
 fn mark_in<'a>(
+    rt: &(impl Print + Eprint),
     head: Head,
     file: &'a [u8],
     counts: &'a [u8],
@@ -119,20 +126,23 @@ fn mark_in<'a>(
 )
     requires { count ≤ 12 }
 {
-    show_marking(mark_first(
-        file,
-        counts,
-        changes,
-        limit_of(head),
-        &mut d[0..directory_length(head)],
-        &mut t[0..times_length(head)],
-        &mut i[0..inertial_length(head)],
-        &mut f[0..fanins_length(head)],
-        &mut v[0..values_length(head)],
-        before,
-        after,
-        list,
-        count,
-    ));
-    show_sums(head, &d, &t, &i, &f, &v);
+    show_marking(
+        rt,
+        mark_first(
+            file,
+            counts,
+            changes,
+            limit_of(head),
+            &mut d[0..directory_length(head)],
+            &mut t[0..times_length(head)],
+            &mut i[0..inertial_length(head)],
+            &mut f[0..fanins_length(head)],
+            &mut v[0..values_length(head)],
+            before,
+            after,
+            list,
+            count,
+        ),
+    );
+    show_sums(rt, head, &d, &t, &i, &f, &v);
 }

@@ -3,15 +3,14 @@ ghost use Rattle.std.specs.Prelude.{◌<◌, ◌≤◌};
 
 use marking::{Expectation, Marking};
 use method::{Net, Time};
+use std::io::{Eprint, Print};
 use testbench::{show_number, show_refused, tick_at_byte};
 
 // The twelve records in the bytes, where those behind the end have every number 0; the first again in all places behind.
 pub(crate) fn list_of(bytes: &[u8]) -> [Expectation; 1024] {
     let mut list = [expectation_at(bytes, 0); 1024];
-    let mut k = 1;
-    while k < 12 {
+    for k in 1..12 {
         list[k] = expectation_at(bytes, 12 * k);
-        k += 1;
     }
     list
 }
@@ -32,16 +31,16 @@ fn low_byte(number: u16) -> u8 {
     (number % 256) as u8
 }
 
-pub(crate) fn show_marking(answer: Marking) {
+pub(crate) fn show_marking(rt: &(impl Print + Eprint), answer: Marking) {
     match answer {
         Marking::AllMet => {
-            streams::write_output(b"all met");
+            streams::write_output(rt, b"all met");
         }
         Marking::Unmet(position, frame) => {
-            streams::write_output(b"unmet");
-            show_number(position as u64);
-            show_number(frame.0 as u64);
+            streams::write_output(rt, b"unmet");
+            show_number(rt, position as u64);
+            show_number(rt, frame.0 as u64);
         }
-        Marking::Refused(number) => show_refused(number),
+        Marking::Refused(number) => show_refused(rt, number),
     }
 }

@@ -4,6 +4,7 @@
 // as the wave program says, and else what Size answers under the largest limit. Where the input cannot be read it prints nothing,
 // and standard error says why.
 #![tactic(auto)]
+
 ghost use Rattle.std.specs.Prelude.{◌<◌, ◌≤◌};
 
 mod print;
@@ -12,6 +13,7 @@ use circuit::Reading;
 use method::Tick;
 use print::{show_refused, show_sizes};
 use sizes::Planning;
+use std::io::{Eprint, Print};
 
 const MOST_BYTES: usize = 4096;
 
@@ -19,30 +21,30 @@ const MOST_BYTES: usize = 4096;
 const FULL_COURSE: u16 = 2048;
 
 // One byte more than an input may have is read, which is enough to tell.
-fn main() {
+fn main(rt: HostRuntime) {
     let mut input = [0u8; 4097];
-    let received = streams::read_input(&mut input);
+    let received = streams::read_input(&rt, &mut input);
     if received.failed {
         return;
     }
     let n = received.count;
-    measure(&input[..n]);
+    measure(&rt, &input[..n]);
 }
 
 // Prints the answer to the input; false where it cannot be written.
-fn measure(input: &[u8]) -> bool {
+fn measure(rt: &(impl Print + Eprint), input: &[u8]) -> bool {
     let len = input.len();
     if len < 2 {
-        return show_refused(0);
+        return show_refused(rt, 0);
     }
     if MOST_BYTES < len {
-        return show_refused(0);
+        return show_refused(rt, 0);
     }
     let end = 2 + wide(numbers::number_at(input, 0));
     if len < end {
-        return show_refused(0);
+        return show_refused(rt, 0);
     }
-    measure_circuit(&input[2..end])
+    measure_circuit(rt, &input[2..end])
 }
 
 // A two-byte number as a length, with its bound.
@@ -53,12 +55,17 @@ fn wide(x: u16) -> usize
 }
 
 // The same for a circuit file.
-fn measure_circuit(file: &[u8]) -> bool {
+fn measure_circuit(rt: &(impl Print + Eprint), file: &[u8]) -> bool {
     match circuit::read(file) {
         Reading::Accepted { inputs, gates } => {
-            show_answer(size_once(file, list_length(wide(inputs))), inputs, gates)
+            show_answer(
+                rt,
+                size_once(file, list_length(wide(inputs))),
+                inputs,
+                gates,
+            )
         }
-        Reading::Refused(number) => show_refused(number),
+        Reading::Refused(number) => show_refused(rt, number),
     }
 }
 
@@ -78,9 +85,9 @@ fn size_once(file: &[u8], inputs: usize) -> Planning
     sizes::size(file, &counts[0..inputs], &changes[0..inputs], FULL_COURSE)
 }
 
-fn show_answer(answer: Planning, inputs: u16, gates: u16) -> bool {
+fn show_answer(rt: &(impl Print + Eprint), answer: Planning, inputs: u16, gates: u16) -> bool {
     match answer {
-        Planning::Planned(totals) => show_sizes(totals, inputs, gates),
-        Planning::Refused(number) => show_refused(number),
+        Planning::Planned(totals) => show_sizes(rt, totals, inputs, gates),
+        Planning::Refused(number) => show_refused(rt, number),
     }
 }

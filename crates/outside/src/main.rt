@@ -16,6 +16,7 @@
 // shorter than said, and else Run's. The program stops at the end of the stream; where that lies within a vector, and where it
 // cannot read or write on, which standard error then says, it prints `cut` and stops.
 #![tactic(auto)]
+
 ghost use Rattle.std.specs.Prelude.{◌<◌, ◌≤◌};
 
 mod nets;
@@ -25,38 +26,37 @@ use method::Tick;
 use nets::show_nets;
 use numbers::number_at;
 use planner::Planning;
+use std::io::{Eprint, Input, Print};
 use testbench::{end_line, limited, read_all, show_cut, show_refused, ticks_of, words_of};
 
 // Every frame total that Run can accept is within this limit.
 const FULL_COURSE: u16 = 2048;
 
 // No input has as many vectors as there are turns: each takes two bytes or more.
-fn main() {
-    let mut turns: u64 = 0;
-    while turns < 18446744073709551615 {
-        if !next_vector() {
+fn main(rt: HostRuntime) {
+    for _ in 0..u64::MAX {
+        if !next_vector(&rt) {
             return;
         }
-        turns += 1;
     }
 }
 
 // One vector. False where the program stops.
-fn next_vector() -> bool {
+fn next_vector(rt: &(impl Input + Print + Eprint)) -> bool {
     let mut head = [0u8; 2];
-    let received = streams::read_input(&mut head);
+    let received = streams::read_input(rt, &mut head);
     if received.failed {
-        return cut();
+        return cut(rt);
     }
     let got = received.count;
     if got == 0 {
         return false;
     }
     if got < 2 {
-        return cut();
+        return cut(rt);
     }
     let mut body = [0u8; 65535];
-    show_vector(&mut body[0..wide(number_at(&head, 0))])
+    show_vector(rt, &mut body[0..wide(number_at(&head, 0))])
 }
 
 // A two-byte number as a length, with its bound.
@@ -67,36 +67,37 @@ fn wide(x: u16) -> usize
 }
 
 // Fills the vector from the input and prints its lines.
-fn show_vector(vector: &mut [u8]) -> bool {
-    if !read_all(vector) {
-        return cut();
+fn show_vector(rt: &(impl Input + Print + Eprint), vector: &mut [u8]) -> bool {
+    if !read_all(rt, vector) {
+        return cut(rt);
     }
-    if !take_apart(vector) {
-        return cut();
+    if !take_apart(rt, vector) {
+        return cut(rt);
     }
-    if !end_line() {
-        return cut();
+    if !end_line(rt) {
+        return cut(rt);
     }
     true
 }
 
-fn cut() -> bool {
-    show_cut();
+fn cut(rt: &(impl Print + Eprint)) -> bool {
+    show_cut(rt);
     false
 }
 
 // Where the circuit ends, as the wave program asks in its question 0. This function and those below it print a vector's lines
 // and answer false where one cannot be written.
-fn take_apart(vector: &[u8]) -> bool {
+fn take_apart(rt: &(impl Print + Eprint), vector: &[u8]) -> bool {
     let len = vector.len();
     if len < 4 {
-        return refuse(0);
+        return refuse(rt, 0);
     }
     let end = 4 + number_at(vector, 0) as usize;
     if len < end {
-        return refuse(0);
+        return refuse(rt, 0);
     }
     show_circuit(
+        rt,
         &vector[4..end],
         &vector[end..len],
         wide(number_at(vector, 2)),
@@ -105,17 +106,24 @@ fn take_apart(vector: &[u8]) -> bool {
 
 // Asks the circuit's questions before the one about the words. A count and a word go with each input, a time and a word with
 // each change.
-fn show_circuit(file: &[u8], lists: &[u8], total: usize) -> bool
+fn show_circuit(rt: &(impl Print + Eprint), file: &[u8], lists: &[u8], total: usize) -> bool
     requires { total < 65536 }
 {
     match circuit::read(file) {
         Reading::Accepted { inputs, gates } => {
             if lists.len() != 9 * inputs as usize + 12 * total {
-                return refuse(11);
+                return refuse(rt, 11);
             }
-            with_lists(file, lists, inputs as usize, total, nets_of(inputs, gates))
+            with_lists(
+                rt,
+                file,
+                lists,
+                inputs as usize,
+                total,
+                nets_of(inputs, gates),
+            )
         }
-        Reading::Refused(number) => refuse(number),
+        Reading::Refused(number) => refuse(rt, number),
     }
 }
 
@@ -132,15 +140,23 @@ fn nets_of(inputs: u16, gates: u16) -> u16 {
 
 // Takes the counts, the times and the words from the bytes. An accepted circuit has at most 32 inputs; it is asked again, so
 // that the lists hold what they must whatever the reader promises. More changes than 8 for each of so many are 20.
-fn with_lists(file: &[u8], lists: &[u8], inputs: usize, total: usize, nets: u16) -> bool {
+fn with_lists(
+    rt: &(impl Print + Eprint),
+    file: &[u8],
+    lists: &[u8],
+    inputs: usize,
+    total: usize,
+    nets: u16,
+) -> bool {
     if 32 < inputs {
-        return refuse(2);
+        return refuse(rt, 2);
     }
     if 256 < total {
-        return refuse(20);
+        return refuse(rt, 20);
     }
     let words = inputs + 4 * total;
     show_run(
+        rt,
         file,
         &lists[0..limited(inputs, lists.len())],
         ticks_of(lists, inputs),
@@ -154,6 +170,7 @@ fn with_lists(file: &[u8], lists: &[u8], inputs: usize, total: usize, nets: u16)
 
 // Runs the circuit, and prints its nets or the number of the refusal.
 fn show_run(
+    rt: &(impl Print + Eprint),
     file: &[u8],
     counts: &[u8],
     changes: [Tick; 400],
@@ -184,12 +201,12 @@ fn show_run(
         &after[0..total],
     );
     match answer {
-        Planning::Planned(_) => show_nets(&directory, &times, &values, nets),
-        Planning::Refused(number) => refuse(number),
+        Planning::Planned(_) => show_nets(rt, &directory, &times, &values, nets),
+        Planning::Refused(number) => refuse(rt, number),
     }
 }
 
-fn refuse(number: u8) -> bool {
-    show_refused(number);
-    end_line()
+fn refuse(rt: &(impl Print + Eprint), number: u8) -> bool {
+    show_refused(rt, number);
+    end_line(rt)
 }

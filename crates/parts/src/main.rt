@@ -9,68 +9,68 @@
 // values are the most) it prints `cut` and stops, and so it does where it cannot read or write on, which standard error then
 // says.
 #![tactic(auto)]
+
 ghost use Rattle.std.specs.Prelude.{◌≤◌};
 
 mod print;
 
 use method::{Tick, Time};
 use print::{show_counted, show_seen};
+use std::io::{Eprint, Input, Print};
 use testbench::{
     end_line, limited, read_ticks, read_words, show_cut, show_semicolon, tick_at_byte, wide,
 };
 
 // No input has as many cases as there are turns: each takes 7 bytes or more.
-fn main() {
-    let mut turns: u64 = 0;
-    while turns < 18446744073709551615 {
-        if !next_case() {
+fn main(rt: HostRuntime) {
+    for _ in 0..u64::MAX {
+        if !next_case(&rt) {
             return;
         }
-        turns += 1;
     }
 }
 
 // One case. False where the program stops.
-fn next_case() -> bool {
+fn next_case(rt: &(impl Input + Print + Eprint)) -> bool {
     let mut head = [0u8; 7];
-    let received = streams::read_input(&mut head);
+    let received = streams::read_input(rt, &mut head);
     if received.failed {
-        return cut();
+        return cut(rt);
     }
     let got = received.count;
     if got == 0 {
         return false;
     }
     if got < 7 {
-        return cut();
+        return cut(rt);
     }
-    if !show_case(head) {
-        return cut();
+    if !show_case(rt, head) {
+        return cut(rt);
     }
     true
 }
 
-fn cut() -> bool {
-    show_cut();
+fn cut(rt: &(impl Print + Eprint)) -> bool {
+    show_cut(rt);
     false
 }
 
 // False where the case is cut short or too large, and nothing is printed; and where its line cannot be written.
-fn show_case(head: [u8; 7]) -> bool {
+fn show_case(rt: &(impl Input + Print + Eprint), head: [u8; 7]) -> bool {
     if 80 < head[0] {
         return false;
     }
     if 80 < head[1] {
         return false;
     }
-    let times = read_ticks(times_count(head));
-    let values = read_words(values_count(head));
+    let times = read_ticks(rt, times_count(head));
+    let values = read_words(rt, values_count(head));
     if !(times.whole && values.whole) {
         return false;
     }
     let t = times.list;
     let v = values.list;
-    show_line(head, t, v)
+    show_line(rt, head, t, v)
 }
 
 fn times_count(head: [u8; 7]) -> usize
@@ -86,14 +86,19 @@ fn values_count(head: [u8; 7]) -> usize
 }
 
 // Prints what Level and Count answer.
-fn show_line(head: [u8; 7], times: [Tick; 400], values: [u64; 400]) -> bool {
+fn show_line(
+    rt: &(impl Print + Eprint),
+    head: [u8; 7],
+    times: [Tick; 400],
+    values: [u64; 400],
+) -> bool {
     let t = &times[0..times_count(head)];
     let v = &values[0..values_count(head)];
     let lane = head[2];
-    show_seen(looks::level(t, v, lane, time_of(head)));
-    show_semicolon();
-    show_counted(looks::count(t, v, lane));
-    end_line()
+    show_seen(rt, looks::level(t, v, lane, time_of(head)));
+    show_semicolon(rt);
+    show_counted(rt, looks::count(t, v, lane));
+    end_line(rt)
 }
 
 fn time_of(head: [u8; 7]) -> Time {

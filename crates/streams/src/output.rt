@@ -1,62 +1,68 @@
 // What is written to standard output.
-ghost use Rattle.std.specs.Prelude.{◌≤◌, length};
+ghost use Rattle.std.specs.Prelude.{◌≤◌, length, IfOk};
 
 use crate::may_try_again;
-use libc::{STDERR_FILENO, STDOUT_FILENO};
+use std::io::{Eprint, Error, ErrorKind, Print, Result, Stderr};
 
 // Writes all the bytes, in as many pieces as are taken. False where a write fails; some of them may have been written then.
-pub fn write_output(bytes: &[u8]) -> bool {
+pub fn write_output(rt: &(impl Print + Eprint), bytes: &[u8]) -> bool {
     let len = bytes.len();
     let mut done = 0;
     while done < len {
-        let more = write_piece(&bytes[done..len]);
-        if more == 0 {
-            say_unwritten();
-            return false;
+        match write_piece(rt, &bytes[done..len]) {
+            Ok(more) => {
+                if more == 0 {
+                    say_unwritten(rt, &Error::from(ErrorKind::WriteZero));
+                    return false;
+                }
+                done += more;
+            }
+            Err(error) => {
+                say_unwritten(rt, &error);
+                return false;
+            }
         }
-        done += more;
     }
     true
 }
 
-// One write, made again as long as that may help: how many bytes were taken, 0 where it fails. The turns are counted as those
-// of a read are.
-fn write_piece(part: &[u8]) -> usize
-    ensures { result ≤ length part.now }
+// One write, made again as long as that may help: how many bytes were taken. The turns are counted as those of a read are.
+fn write_piece(rt: &impl Print, part: &[u8]) -> Result<usize>
+    ensures { IfOk result (λ n. n ≤ length part.now) }
 {
-    let mut turns: u64 = 0;
-    while turns < 18446744073709551615 {
-        let put = libc::write(STDOUT_FILENO, part);
-        if 0 <= put {
-            return io::count(put, part);
+    for _ in 0..u64::MAX {
+        match rt.write_some(part) {
+            Ok(more) => return Ok(more),
+            Err(error) => {
+                if !may_try_again(&error) {
+                    return Err(error);
+                }
+            }
         }
-        if !may_try_again() {
-            break;
-        }
-        turns += 1;
     }
-    0
+    Err(Error::from(ErrorKind::WouldBlock))
 }
 
-fn say_unwritten() {
-    os::fail(b"cannot write standard output");
+// A line that cannot be said is lost.
+fn say_unwritten(rt: &impl Eprint, error: &Error) {
+    let _ = eprintln!(rt; "cannot write standard output: {error}");
 }
 
 // Writes the number in decimal, and answers as write_output does.
-pub fn write_decimal(n: u64) -> bool {
+pub fn write_decimal(rt: &(impl Print + Eprint), n: u64) -> bool {
     let mut text = [0u8; 20];
     let k = io::decimal(n, &mut text);
-    write_output(&text[..k])
+    write_output(rt, &text[..k])
 }
 
 // Writes the number in hexadecimal, with zeros in front up to the width, and answers as write_output does.
-pub fn write_hex(n: u64, width: usize) -> bool {
+pub fn write_hex(rt: &(impl Print + Eprint), n: u64, width: usize) -> bool {
     let mut text = [0u8; 16];
     let k = io::hex(n, width, &mut text);
-    write_output(&text[..k])
+    write_output(rt, &text[..k])
 }
 
 // Says a line to whoever watches, on standard error. One that cannot be said is lost.
-pub fn say(line: &[u8]) {
-    io::write_all(STDERR_FILENO, line);
+pub fn say(stderr: Stderr, line: &[u8]) {
+    let _ = stderr.write_all(line);
 }

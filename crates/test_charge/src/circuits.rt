@@ -4,6 +4,7 @@ use crate::print::show_charged;
 use charge::Charged;
 use charge_numbers::{charge_on, numbers_suit};
 use method::Tick;
+use std::io::{Eprint, Input, Print};
 use testbench::{
     Case, Head, after_count, before_count, changes_length, counts_length, directory_length,
     end_line, fanins_length, file_length, inertial_length, limit_of, read_case, rubbish_directory,
@@ -12,9 +13,9 @@ use testbench::{
 };
 
 // False where the case is cut short or too large, and nothing is printed; and where its line cannot be written.
-pub(crate) fn circuit_case(first: First, read: bool) -> bool {
-    let case = read_case();
-    let loads = read_loads(first);
+pub(crate) fn circuit_case(rt: &(impl Input + Print + Eprint), first: First, read: bool) -> bool {
+    let case = read_case(rt);
+    let loads = read_loads(rt, first);
     if !(read && case.whole && loads.whole) {
         return false;
     }
@@ -27,11 +28,12 @@ pub(crate) fn circuit_case(first: First, read: bool) -> bool {
     let cases = loads.cases;
     let charges = loads.charges;
     show_line(
-        head, file, counts, changes, before, after, first, cases, charges,
+        rt, head, file, counts, changes, before, after, first, cases, charges,
     )
 }
 
 fn show_line(
+    rt: &(impl Print + Eprint),
     head: Head,
     file: [u8; 70000],
     counts: [u8; 80],
@@ -43,6 +45,7 @@ fn show_line(
     charges: [f64; 800],
 ) -> bool {
     charge_case(
+        rt,
         head,
         &file[0..file_length(head)],
         &counts[0..counts_length(head)],
@@ -53,10 +56,11 @@ fn show_line(
         &charges[0..charges_count(first)],
         lane_of(first),
     );
-    end_line()
+    end_line(rt)
 }
 
 fn charge_case<'a>(
+    rt: &(impl Print + Eprint),
     head: Head,
     file: &'a [u8],
     counts: &'a [u8],
@@ -69,6 +73,7 @@ fn charge_case<'a>(
 ) {
     let r = rubbish_of(head);
     charge_in(
+        rt,
         head,
         file,
         counts,
@@ -88,6 +93,7 @@ fn charge_case<'a>(
 
 // Here d, t, i, f and v are the areas: directory, times, inertial, fan-ins and values.
 fn charge_in<'a>(
+    rt: &(impl Print + Eprint),
     head: Head,
     file: &'a [u8],
     counts: &'a [u8],
@@ -103,23 +109,26 @@ fn charge_in<'a>(
     mut f: [u16; 16400],
     mut v: [u64; 2100],
 ) {
-    show_charged(charge_of_numbers(
-        file,
-        counts,
-        changes,
-        limit_of(head),
-        &mut d[0..directory_length(head)],
-        &mut t[0..times_length(head)],
-        &mut i[0..inertial_length(head)],
-        &mut f[0..fanins_length(head)],
-        &mut v[0..values_length(head)],
-        before,
-        after,
-        cases,
-        charges,
-        lane,
-    ));
-    show_sums(head, &d, &t, &i, &f, &v);
+    show_charged(
+        rt,
+        charge_of_numbers(
+            file,
+            counts,
+            changes,
+            limit_of(head),
+            &mut d[0..directory_length(head)],
+            &mut t[0..times_length(head)],
+            &mut i[0..inertial_length(head)],
+            &mut f[0..fanins_length(head)],
+            &mut v[0..values_length(head)],
+            before,
+            after,
+            cases,
+            charges,
+            lane,
+        ),
+    );
+    show_sums(rt, head, &d, &t, &i, &f, &v);
 }
 
 // The call, or 100 where the numbers are no list of loads.

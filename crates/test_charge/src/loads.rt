@@ -2,6 +2,7 @@
 // taken for the buffer's length, and `is_held` says whether there is one.
 ghost use Rattle.std.specs.Prelude.{◌≤◌};
 
+use std::io::{Eprint, Input};
 use testbench::{limited, read_all};
 
 // The lane, how many case bytes, and how many charges.
@@ -43,11 +44,11 @@ pub struct Loads {
 }
 
 // Reads the loads; what is behind them is 0.
-pub(crate) fn read_loads(first: First) -> Loads {
+pub(crate) fn read_loads(rt: &(impl Input + Eprint), first: First) -> Loads {
     let mut cases = [0u8; 400];
-    let filled = read_all(&mut cases[0..cases_count(first)]);
+    let filled = read_all(rt, &mut cases[0..cases_count(first)]);
     let mut bytes = [0u8; 6400];
-    let charged = read_all(&mut bytes[0..8 * charges_count(first)]);
+    let charged = read_all(rt, &mut bytes[0..8 * charges_count(first)]);
     let charges = charges_of(&bytes);
     Loads {
         whole: is_held(first) && filled && charged,
@@ -58,10 +59,8 @@ pub(crate) fn read_loads(first: First) -> Loads {
 
 fn charges_of(bytes: &[u8; 6400]) -> [f64; 800] {
     let mut charges = [0.0; 800];
-    let mut k = 0;
-    while k < 800 {
+    for k in 0..800 {
         charges[k] = float_of(numbers::word_at_byte(&bytes[..], 8 * k));
-        k += 1;
     }
     charges
 }

@@ -14,39 +14,39 @@
 // and 800 charges are the most) it prints `cut` and stops, and so it does where it cannot read or write on, which standard error
 // then says.
 #![tactic(auto)]
+
 mod circuits;
 mod loads;
 mod print;
 
 use circuits::circuit_case;
+use std::io::{Eprint, Input, Print};
 use testbench::show_cut;
 
 // No input has as many cases as there are turns.
-fn main() {
-    let mut turns: u64 = 0;
-    while turns < 18446744073709551615 {
-        if !next_case() {
+fn main(rt: HostRuntime) {
+    for _ in 0..u64::MAX {
+        if !next_case(&rt) {
             return;
         }
-        turns += 1;
     }
 }
 
 // One case. False where the program stops.
-fn next_case() -> bool {
+fn next_case(rt: &(impl Input + Print + Eprint)) -> bool {
     let mut first = [0u8; 5];
-    let received = streams::read_input(&mut first);
+    let received = streams::read_input(rt, &mut first);
     if received.failed {
-        show_cut();
+        show_cut(rt);
         return false;
     }
     let got = received.count;
     if got == 0 {
         return false;
     }
-    let shown = circuit_case(first, got == 5);
+    let shown = circuit_case(rt, first, got == 5);
     if !shown {
-        show_cut();
+        show_cut(rt);
     }
     shown
 }

@@ -7,6 +7,7 @@ use crate::head::{
 use crate::input::limited;
 use crate::print::show_number;
 use method::Tick;
+use std::io::{Eprint, Print};
 
 pub fn rubbish_directory(rubbish: u16) -> [u16; 400]
     ensures { 400 ≡ length result }
@@ -50,31 +51,25 @@ pub fn rubbish_values(rubbish: u16) -> [u64; 2100]
 
 fn fill(area: &mut [u16], rubbish: u16) {
     let mut entry = rubbish;
-    let mut k = 0;
-    while k < area.len() {
-        area[k] = entry;
-        entry = std::num::wrapping_add_u16(entry, 257);
-        k += 1;
+    for place in area {
+        *place = entry;
+        entry = entry.wrapping_add(257);
     }
 }
 
 fn fill_ticks(times: &mut [Tick], rubbish: u16) {
     let mut entry = rubbish;
-    let mut k = 0;
-    while k < times.len() {
-        times[k] = tick_of(entry, entry);
-        entry = std::num::wrapping_add_u16(entry, 257);
-        k += 1;
+    for time in times {
+        *time = tick_of(entry, entry);
+        entry = entry.wrapping_add(257);
     }
 }
 
 fn fill_words(values: &mut [u64], rubbish: u16) {
     let mut entry = rubbish;
-    let mut k = 0;
-    while k < values.len() {
-        values[k] = wide(entry) * 281479271743489;
-        entry = std::num::wrapping_add_u16(entry, 257);
-        k += 1;
+    for word in values {
+        *word = wide(entry) * 281479271743489;
+        entry = entry.wrapping_add(257);
     }
 }
 
@@ -95,6 +90,7 @@ pub(crate) fn tick_of(low: u16, high: u16) -> Tick {
 
 // The arrays hold the areas in front; how long the areas are stands in the head.
 pub fn show_sums(
+    rt: &(impl Print + Eprint),
     head: Head,
     directory: &[u16; 400],
     times: &[Tick; 2100],
@@ -102,55 +98,50 @@ pub fn show_sums(
     fanins: &[u16; 16400],
     values: &[u64; 2100],
 ) {
-    show_plan_sums(head, directory, times, inertial, fanins);
-    show_words_sum(&values[..], values_length(head));
+    show_plan_sums(rt, head, directory, times, inertial, fanins);
+    show_words_sum(rt, &values[..], values_length(head));
 }
 
 pub fn show_plan_sums(
+    rt: &(impl Print + Eprint),
     head: Head,
     directory: &[u16; 400],
     times: &[Tick; 2100],
     inertial: &[u16; 2100],
     fanins: &[u16; 16400],
 ) {
-    show_sum(&directory[..], directory_length(head));
-    show_ticks_sum(&times[..], times_length(head));
-    show_sum(&inertial[..], inertial_length(head));
-    show_sum(&fanins[..], fanins_length(head));
+    show_sum(rt, &directory[..], directory_length(head));
+    show_ticks_sum(rt, &times[..], times_length(head));
+    show_sum(rt, &inertial[..], inertial_length(head));
+    show_sum(rt, &fanins[..], fanins_length(head));
 }
 
 // Of the first numbers, as many as the count says.
-fn show_sum(numbers: &[u16], count: usize) {
+fn show_sum(rt: &(impl Print + Eprint), numbers: &[u16], count: usize) {
     let end = limited(count, numbers.len());
     let mut sum: u64 = 0;
-    let mut k = 0;
-    while k < end {
-        sum = with_number(sum, wide(numbers[k]));
-        k += 1;
+    for number in &numbers[..end] {
+        sum = with_number(sum, wide(*number));
     }
-    show_number(sum);
+    show_number(rt, sum);
 }
 
-fn show_ticks_sum(times: &[Tick], count: usize) {
+fn show_ticks_sum(rt: &(impl Print + Eprint), times: &[Tick], count: usize) {
     let end = limited(count, times.len());
     let mut sum: u64 = 0;
-    let mut k = 0;
-    while k < end {
-        sum = with_tick(sum, wide_tick(times[k]));
-        k += 1;
+    for time in &times[..end] {
+        sum = with_tick(sum, wide_tick(*time));
     }
-    show_number(sum);
+    show_number(rt, sum);
 }
 
-fn show_words_sum(words: &[u64], count: usize) {
+fn show_words_sum(rt: &(impl Print + Eprint), words: &[u64], count: usize) {
     let end = limited(count, words.len());
     let mut sum: u64 = 0;
-    let mut k = 0;
-    while k < end {
-        sum = with_word(sum, words[k]);
-        k += 1;
+    for word in &words[..end] {
+        sum = with_word(sum, *word);
     }
-    show_number(sum);
+    show_number(rt, sum);
 }
 
 fn with_tick(sum: u64, tick: u64) -> u64 {

@@ -4,6 +4,7 @@ use crate::head::{
 };
 use crate::input::{read_all, read_ticks, read_words};
 use method::Tick;
+use std::io::{Eprint, Input};
 
 // The head, and what follows it; whether the input had it all, and the buffers hold it.
 #[derive(Drop)]
@@ -17,21 +18,21 @@ pub struct Case {
     pub after: [u64; 400],
 }
 
-pub fn read_case() -> Case {
+pub fn read_case(rt: &(impl Input + Eprint)) -> Case {
     let mut head = [0u8; 24];
-    let whole = read_all(&mut head);
-    case_of(head, whole)
+    let whole = read_all(rt, &mut head);
+    case_of(rt, head, whole)
 }
 
 // The case of a head, which was read before, whole or not.
-pub fn case_of(head: Head, read: bool) -> Case {
+pub fn case_of(rt: &(impl Input + Eprint), head: Head, read: bool) -> Case {
     let mut file = [0u8; 70000];
-    let filled = read_all(&mut file[0..file_length(head)]);
+    let filled = read_all(rt, &mut file[0..file_length(head)]);
     let mut counts = [0u8; 80];
-    let counted = read_all(&mut counts[0..counts_length(head)]);
-    let timed = read_ticks(changes_length(head));
-    let first = read_words(before_count(head));
-    let second = read_words(after_count(head));
+    let counted = read_all(rt, &mut counts[0..counts_length(head)]);
+    let timed = read_ticks(rt, changes_length(head));
+    let first = read_words(rt, before_count(head));
+    let second = read_words(rt, after_count(head));
     let changes = timed.list;
     let before = first.list;
     let after = second.list;

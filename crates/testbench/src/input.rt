@@ -3,11 +3,12 @@ ghost use Rattle.std.specs.Prelude.{◌<◌, ◌≤◌};
 
 use crate::areas::tick_of;
 use method::Tick;
+use std::io::{Eprint, Input};
 
 // Fills the bytes from the input; false where it ends before or cannot be read.
-pub fn read_all(bytes: &mut [u8]) -> bool {
+pub fn read_all(rt: &(impl Input + Eprint), bytes: &mut [u8]) -> bool {
     let wanted = bytes.len();
-    let received = streams::read_input(bytes);
+    let received = streams::read_input(rt, bytes);
     received.count == wanted
 }
 
@@ -19,14 +20,14 @@ pub struct Ticks {
 }
 
 // Reads as many times, 400 at most; those behind them are 0.
-pub fn read_ticks(count: usize) -> Ticks {
+pub fn read_ticks(rt: &(impl Input + Eprint), count: usize) -> Ticks {
     let mut bytes = [0u8; 1600];
-    ticks_in(&mut bytes[0..4 * limited(count, 400)])
+    ticks_in(rt, &mut bytes[0..4 * limited(count, 400)])
 }
 
 // Fills the bytes from the input, and takes the times from them.
-fn ticks_in(bytes: &mut [u8]) -> Ticks {
-    let whole = read_all(bytes);
+fn ticks_in(rt: &(impl Input + Eprint), bytes: &mut [u8]) -> Ticks {
+    let whole = read_all(rt, bytes);
     let list = ticks_of(bytes, 0);
     Ticks {
         whole: whole,
@@ -39,10 +40,8 @@ pub fn ticks_of(bytes: &[u8], at: usize) -> [Tick; 400]
     requires { at ≤ 65535 }
 {
     let mut row: [Tick; 400] = [0; 400];
-    let mut k = 0;
-    while k < 400 {
+    for k in 0..400 {
         row[k] = tick_at_byte(bytes, at + 4 * k);
-        k += 1;
     }
     row
 }
@@ -65,14 +64,14 @@ pub struct Words {
 }
 
 // Reads as many words, 400 at most; those behind them are 0.
-pub fn read_words(count: usize) -> Words {
+pub fn read_words(rt: &(impl Input + Eprint), count: usize) -> Words {
     let mut bytes = [0u8; 3200];
-    words_in(&mut bytes[0..8 * limited(count, 400)])
+    words_in(rt, &mut bytes[0..8 * limited(count, 400)])
 }
 
 // Fills the bytes from the input, and takes the words from them.
-fn words_in(bytes: &mut [u8]) -> Words {
-    let whole = read_all(bytes);
+fn words_in(rt: &(impl Input + Eprint), bytes: &mut [u8]) -> Words {
+    let whole = read_all(rt, bytes);
     let list = words_of(bytes, 0);
     Words {
         whole: whole,
@@ -85,10 +84,8 @@ pub fn words_of(bytes: &[u8], at: usize) -> [u64; 400]
     requires { at ≤ 65535 }
 {
     let mut words = [0u64; 400];
-    let mut k = 0;
-    while k < 400 {
+    for k in 0..400 {
         words[k] = numbers::word_at_byte(bytes, at + 8 * k);
-        k += 1;
     }
     words
 }

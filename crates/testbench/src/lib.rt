@@ -13,6 +13,7 @@
 // (17 * sum + x + 1) % 65521. Of the times it takes the two halves of each, of the values the four quarters of each word, the
 // lowest first.
 #![tactic(auto)]
+
 mod areas;
 mod circuits;
 mod head;

@@ -1,18 +1,19 @@
 // The wave program: reads a circuit and its words from standard input, and prints lane 0 of each net. Where the input cannot
 // be read it prints nothing, and standard error says why.
 #![tactic(auto)]
+
 use waveform::Printing;
 
 // One byte more than an input may have is read, which is enough to tell.
-fn main() {
+fn main(rt: HostRuntime) {
     let mut input = [0u8; 4097];
     let mut output = [0u8; waveform::BUFFER_LENGTH];
-    let received = streams::read_input(&mut input);
+    let received = streams::read_input(&rt, &mut input);
     if received.failed {
         return;
     }
     let n = received.count;
     if let Printing::Printed(length) = waveform::wave(&input[..n], &mut output) {
-        streams::write_output(&output[..length]);
+        streams::write_output(&rt, &output[..length]);
     }
 }
