@@ -19,7 +19,7 @@ use Rattle.method.specs.Changes.{start_of, moments_from, most_changes, last_chan
 use Rattle.method.specs.Frames.{Frames, input_frames, gate_frames, no_frames, frames, frames_at}
 use Rattle.method.specs.Traces.{Trace, input_trace, gate_trace, no_trace, traces}
 use Rattle.method.specs.Machine.{Wave, input_wave, gate_wave, no_wave, waves, machine}
-use Rattle.method.specs.Words.{lanes, lane, pack}
+use Rattle.method.specs.Words.{lanes, pack}
 use Rattle.method.specs.WordLists.{WordLists}
 use Rattle.method.specs.Packed.{changes_before, lane_of, packed_word, packed_values}
 use Rattle.method.specs.Values.{net_count, all_values}

@@ -1,6 +1,5 @@
 -- `circuit::read` meets its contract. It is that of editions.
 use Rattle.circuit.proofs.Present.{read_present}
-use borrow.Author.Rules.{rules}
 use Rattle.circuit.proofs.read.Goals as goal
 
 pub returns : goal.returns

@@ -1,9 +1,7 @@
 -- `clear` meets its contract: after i turns the first i numbers are 0 and the others are as they were.
-use Prim.Native.Nat.{◌-◌}
-use lib.ListN.{length, length-set}
+use lib.ListN.{length-set}
 use native.Mathlib.Omega.{arith}
-use borrow.Author.Rules.{rules}
-use Rattle.lists.proofs.Zeros.{Filled, none, more, all}
+use Rattle.lists.proofs.Zeros.{none, more, all}
 use Rattle.clearing.proofs.clear.Goals as goal
 
 pub loop-i-init : goal.loop-i-init

@@ -1,9 +1,7 @@
 -- `clear` meets its contract: after i turns the first i numbers are 0 and the others are as they were.
 use Prim.Native.Nat.{◌-◌}
-use lib.ListN.{length, length-set}
-use native.Mathlib.Omega.{arith}
-use borrow.Author.Rules.{rules}
-use Rattle.lists.proofs.Zeros.{Filled, none, more, all}
+use lib.ListN.{length}
+use Rattle.lists.proofs.Zeros.{Filled}
 use Rattle.clearing.proofs.clear.Given as goal
 
 abbrev pub invariant-loop-i : goal.invariant-loop-i

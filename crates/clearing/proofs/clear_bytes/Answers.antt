@@ -1,9 +1,7 @@
 -- `clear_bytes` meets its contract: after b turns the first b bytes are 0 and the others are as they were.
-use Prim.Native.Nat.{◌-◌}
-use lib.ListN.{length, length-set}
+use lib.ListN.{length-set}
 use native.Mathlib.Omega.{arith}
-use borrow.Author.Rules.{rules}
-use Rattle.lists.proofs.Zeros.{Filled, none, more, all}
+use Rattle.lists.proofs.Zeros.{none, more, all}
 use Rattle.clearing.proofs.clear_bytes.Goals as goal
 
 pub loop-b-init : goal.loop-b-init

@@ -1,9 +1,7 @@
 -- `clear_ticks` meets its contract: after t turns the first t times are 0 and the others are as they were.
-use Prim.Native.Nat.{◌-◌}
-use lib.ListN.{length, length-set}
+use lib.ListN.{length-set}
 use native.Mathlib.Omega.{arith}
-use borrow.Author.Rules.{rules}
-use Rattle.lists.proofs.Zeros.{Filled, none, more, all}
+use Rattle.lists.proofs.Zeros.{none, more, all}
 use Rattle.clearing.proofs.clear_ticks.Goals as goal
 
 pub loop-t-init : goal.loop-t-init

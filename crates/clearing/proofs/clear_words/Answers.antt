@@ -1,9 +1,7 @@
 -- `clear_words` meets its contract: after w turns the first w words are 0 and the others are as they were.
-use Prim.Native.Nat.{◌-◌}
-use lib.ListN.{length, length-set}
+use lib.ListN.{length-set}
 use native.Mathlib.Omega.{arith}
-use borrow.Author.Rules.{rules}
-use Rattle.lists.proofs.Zeros.{Filled, none, more, all}
+use Rattle.lists.proofs.Zeros.{none, more, all}
 use Rattle.clearing.proofs.clear_words.Goals as goal
 
 pub loop-w-init : goal.loop-w-init

@@ -1,6 +1,5 @@
 -- `editions::delays_suit` meets its contract. The first test decides, else the second.
 use Rattle.editions.proofs.Gated.{delay_out, inertial_decides}
-use borrow.Author.Rules.{rules}
 use mathlib.Core.Path.{ap}
 use mathlib.Core.Bool.{not}
 use Rattle.editions.proofs.delays_suit.Goals as goal

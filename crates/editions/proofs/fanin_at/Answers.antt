@@ -1,5 +1,4 @@
 -- `editions::fanin_at` meets its contract. It is the number at the entry's place.
-use borrow.Author.Rules.{rules}
 use Rattle.editions.proofs.fanin_at.Goals as goal
 
 pub returns : goal.returns

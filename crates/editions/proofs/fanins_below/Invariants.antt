@@ -1,11 +1,8 @@
 -- `editions::fanins_below` meets its contract. The loop's invariant: the answer for all entries is the answer for those from the i-th on.
 use Prim.Native.Nat.{◌≤◌, ◌-◌}
 use mathlib.Core.Path.{◌≡◌}
-use native.Mathlib.Nat.{sub-zero}
 use Rattle.lists.specs.Tables.{tabulate, tabulate_from, all_below}
 use Rattle.editions.specs.File.{fanin_at}
-use Rattle.editions.proofs.Gated.{not_below, below_next, below_end}
-use borrow.Author.Rules.{rules}
 use Rattle.editions.proofs.fanins_below.Given as goal
 
 abbrev pub invariant-loop-i : goal.invariant-loop-i

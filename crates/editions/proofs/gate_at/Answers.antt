@@ -1,7 +1,6 @@
 -- `editions::gate_at` meets its contract. Each part is what was read at its place.
 use mathlib.Core.Path.{refl}
 use Rattle.editions.proofs.Gated.{record_is}
-use borrow.Author.Rules.{rules}
 use Rattle.editions.proofs.gate_at.Goals as goal
 
 pub returns : goal.returns

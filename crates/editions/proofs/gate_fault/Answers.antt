@@ -1,9 +1,7 @@
 -- `editions::gate_fault` meets its contract. At each return the tests that led there pick the ladder's case.
 use mathlib.Core.Path.{refl, sym, ◌∙◌}
-use borrow.Author.Tests.{not-false}
 use Rattle.editions.proofs.Gated.{kind_read, read_7, read_8, read_9, no_6, no_7, no_8, no_9, none_9}
 use Rattle.editions.proofs.Lying.{list_lies}
-use borrow.Author.Rules.{rules}
 use mathlib.Core.Path.{ap}
 use mathlib.Core.Bool.{not}
 use Rattle.editions.proofs.gate_fault.Goals as goal

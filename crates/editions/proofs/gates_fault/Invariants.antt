@@ -2,12 +2,9 @@
 use Prim.Native.Nat.{◌≤◌, ◌-◌}
 use mathlib.Core.Path.{◌≡◌}
 use mathlib.Core.List.{flatten}
-use native.Mathlib.Nat.{sub-zero}
 use Rattle.lists.specs.Ladder.{first_no}
 use Rattle.lists.specs.Tables.{tabulate, tabulate_from}
 use Rattle.editions.specs.Questions.{gate_questions}
-use Rattle.editions.proofs.Gated.{fault_here, fault_next, fault_none}
-use borrow.Author.Rules.{rules}
 use Rattle.editions.proofs.gates_fault.Given as goal
 
 abbrev pub invariant-loop-j : goal.invariant-loop-j

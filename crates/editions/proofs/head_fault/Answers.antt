@@ -1,6 +1,5 @@
 -- `editions::head_fault` meets its contract. At each return the tests that led there pick the ladder's case.
 use Rattle.editions.proofs.Heads.{no_1, no_2, no_3, no_4, no_5, none_5}
-use borrow.Author.Rules.{rules}
 use mathlib.Core.Path.{ap}
 use mathlib.Core.Bool.{not}
 use Rattle.editions.proofs.head_fault.Goals as goal

@@ -1,6 +1,5 @@
 -- `editions::inputs_of` meets its contract. What bytes 0-1 hold, less what the edition adds.
 use Rattle.editions.proofs.Widths.{too_few, inputs_left}
-use borrow.Author.Rules.{rules}
 use Rattle.editions.proofs.inputs_of.Goals as goal
 
 pub returns-then-held-added : goal.returns-then-held-added

@@ -1,6 +1,5 @@
 -- `editions::inputs_suit` meets its contract. What is left without what the edition adds decides.
 use Rattle.editions.proofs.Heads.{held_low, held_less}
-use borrow.Author.Rules.{rules}
 use Rattle.editions.proofs.inputs_suit.Goals as goal
 
 pub returns-then-held-added : goal.returns-then-held-added

@@ -1,6 +1,5 @@
 -- `editions::length_suits` meets its contract. The length decides, else the kind.
 use Rattle.editions.proofs.Gated.{length_out, kind_decides}
-use borrow.Author.Rules.{rules}
 use Rattle.editions.proofs.length_suits.Goals as goal
 
 pub returns-then-len-head : goal.returns-then-len-head

@@ -1,7 +1,6 @@
 -- `editions::present_gate` meets its contract. Each part is what was read at its place.
 use mathlib.Core.Path.{refl}
 use Rattle.editions.proofs.Gated.{present_record}
-use borrow.Author.Rules.{rules}
 use Rattle.editions.proofs.present_gate.Goals as goal
 
 pub returns : goal.returns

@@ -5,7 +5,6 @@ use Rattle.editions.specs.Questions.{on_paper}
 use Rattle.editions.proofs.Gated.{refused_head, refused_gates, accepted_all}
 use Rattle.editions.proofs.Accepted.{head_passed, counted}
 use Rattle.editions.proofs.Lying.{gate_lies}
-use borrow.Author.Rules.{rules}
 use Rattle.editions.proofs.read.Goals as goal
 
 pub returns-then-fault-ne0 : goal.returns-then-fault-ne0

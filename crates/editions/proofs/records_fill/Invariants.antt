@@ -1,11 +1,8 @@
 -- `editions::records_fill` meets its contract. The loop's invariant: the answer for all pairs is the answer for those from pair j on.
 use Prim.Native.Nat.{◌≤◌, ◌-◌}
 use mathlib.Core.Path.{◌≡◌}
-use native.Mathlib.Nat.{sub-zero}
 use Rattle.editions.specs.File.{head_length}
 use Rattle.editions.specs.Questions.{fills}
-use Rattle.editions.proofs.Heads.{elsewhere, short, next, last}
-use borrow.Author.Rules.{rules}
 use Rattle.editions.proofs.records_fill.Given as goal
 
 abbrev pub invariant-loop-j : goal.invariant-loop-j

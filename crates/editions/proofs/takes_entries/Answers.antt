@@ -1,7 +1,6 @@
 -- `editions::takes_entries` meets its contract. BUF and NOT come first.
 use mathlib.Core.Path.{◌∙◌}
 use Rattle.editions.proofs.Kinded.{takes_one, takes_several}
-use borrow.Author.Rules.{rules}
 use Rattle.editions.proofs.takes_entries.Goals as goal
 
 pub returns-then-kind-lt2 : goal.returns-then-kind-lt2

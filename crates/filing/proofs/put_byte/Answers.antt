@@ -1,7 +1,6 @@
 -- `filing::put_byte` meets its contract. Past the end nothing is stored.
 use mathlib.Core.Path.{sym}
 use lib.Seq.{set_out}
-use borrow.Author.Rules.{rules}
 use Rattle.filing.proofs.put_byte.Goals as goal
 
 pub returns-then-area-at : goal.returns-then-area-at

@@ -1,6 +1,5 @@
 -- `filing::put_delay` meets its contract. By its width.
 use Rattle.filing.proofs.Putting.{wide_small, narrow_small, put_wide, put_narrow}
-use borrow.Author.Rules.{rules}
 use Rattle.filing.proofs.put_delay.Goals as goal
 
 pub overflow_cast-delay : goal.overflow_cast-delay

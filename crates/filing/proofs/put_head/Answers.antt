@@ -1,6 +1,5 @@
 -- `filing::put_head` meets its contract. Kind, d and di, one behind the other.
 use Rattle.filing.proofs.Putting.{head_put}
-use borrow.Author.Rules.{rules}
 use Rattle.filing.proofs.put_head.Goals as goal
 
 pub returns : goal.returns

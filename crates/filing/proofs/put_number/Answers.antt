@@ -1,6 +1,5 @@
 -- `filing::put_number` meets its contract. The low byte, then the high one.
 use Rattle.filing.proofs.Putting.{put_none, put_two}
-use borrow.Author.Rules.{rules}
 use Rattle.filing.proofs.put_number.Goals as goal
 
 pub returns-then-area-at : goal.returns-then-area-at

@@ -1,6 +1,5 @@
 -- `filing::put_pair` meets its contract. One number behind the other.
 use Rattle.filing.proofs.Putting.{put_twice}
-use borrow.Author.Rules.{rules}
 use Rattle.filing.proofs.put_pair.Goals as goal
 
 pub returns : goal.returns

@@ -1,7 +1,6 @@
 -- `byte_at` meets its contract. Past the end the default is read.
 use mathlib.Core.Path.{sym}
 use lib.ListN.{get_or-eq_default}
-use borrow.Author.Rules.{rules}
 use Rattle.numbers.proofs.byte_at.Goals as goal
 
 pub returns-else-at-bytes : goal.returns-else-at-bytes

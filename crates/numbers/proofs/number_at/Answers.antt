@@ -2,7 +2,6 @@
 use mathlib.Core.Path.{◌∙◌}
 use native.Mathlib.Omega.{arith}
 use Rattle.numbers.proofs.Bytes.{low_only}
-use borrow.Author.Rules.{rules}
 use Rattle.numbers.proofs.number_at.Goals as goal
 
 pub returns-then-bytes-lt2 : goal.returns-then-bytes-lt2

@@ -1,6 +1,5 @@
 -- `word_at_byte` meets its contract. The four numbers are those of the bytes from the place on.
 use Rattle.numbers.proofs.Bytes.{word_past, word_here, rest_is}
-use borrow.Author.Rules.{rules}
 use Rattle.numbers.proofs.word_at_byte.Goals as goal
 
 pub returns-then-bytes-at : goal.returns-then-bytes-at

@@ -1,10 +1,8 @@
 -- `first_above` meets its contract: the search stands at place k, all numbers before it from `from` on being at most the limit.
 use Prim.Native.Nat.{◌+◌, ◌-◌}
-use mathlib.Core.Path.{◌≡◌, refl}
+use mathlib.Core.Path.{◌≡◌}
 use lib.ListN.{length, drop}
 use Rattle.lists.specs.Front.{leading}
-use Rattle.lists.proofs.Leading.{search_on, search_stop, search_end}
-use borrow.Author.Rules.{rules}
 use Rattle.slices.proofs.first_above.Given as goal
 
 abbrev pub invariant-loop-k : goal.invariant-loop-k

@@ -1,10 +1,7 @@
 -- `slices::store` meets its contract: after k turns the numbers from k on are still to be stored, and past the area's end none is.
 use Prim.Native.Nat.{◌-◌}
-use mathlib.Core.Path.{refl, sym}
 use lib.ListN.{length}
-use native.Mathlib.Omega.{arith}
-use borrow.Author.Rules.{rules}
-use Rattle.lists.proofs.Storing.{Left, none, more, all, full, sets_out}
+use Rattle.lists.proofs.Storing.{Left}
 use Rattle.slices.proofs.store.Given as goal
 
 abbrev pub invariant-loop-k : goal.invariant-loop-k

@@ -1,6 +1,5 @@
 -- `changes_suit` meets its contract: at each return the parts of the question that were asked decide it.
 use Rattle.stimulus.proofs.Asked.{not_each, not_small, not_all, not_within, rise_decides}
-use borrow.Author.Rules.{rules}
 use mathlib.Core.Path.{ap}
 use mathlib.Core.Bool.{not}
 use Rattle.stimulus.proofs.changes_suit.Goals as goal

@@ -1,15 +1,12 @@
 -- `counts_suit` meets its contract: the loop stands at input i, no count before it being above the most.
 use Prim.Native.Nat.{ℕ, ◌-◌}
-use mathlib.Core.Path.{◌≡◌, refl}
+use mathlib.Core.Path.{◌≡◌}
 use mathlib.Core.Bool.{Bool}
 use mathlib.Core.List.{map}
 use lib.Dec.{leb}
 use lib.ListN.{length, drop}
-use borrow.Author.Tests.{le-leb, lt-leb}
 use Rattle.lists.specs.Tables.{every}
 use Rattle.method.specs.Changes.{most_changes}
-use Rattle.stimulus.proofs.Turns.{each_no, each_on, each_end}
-use borrow.Author.Rules.{rules}
 use Rattle.stimulus.proofs.counts_suit.Given as goal
 
 abbrev few : ℕ → Bool

@@ -1,16 +1,13 @@
 -- `each_rises` meets its contract: at input i its times start at `at`, as the counts before it say, and those of the inputs before
 -- it rise. They lie within all times, to whose number the counts add up.
 use Prim.Native.Nat.{◌-◌}
-use mathlib.Core.Path.{◌≡◌, refl}
+use mathlib.Core.Path.{◌≡◌}
 use mathlib.Core.List.{map}
-use native.Mathlib.Omega.{arith}
-use native.Mathlib.Nat.{sub-zero}
 use lib.ListN.{length}
 use Rattle.lists.specs.Tables.{tabulate, every}
 use Rattle.method.specs.Times.{rise_above}
 use Rattle.method.specs.Changes.{schedule, start_of, moments_from}
-use Rattle.stimulus.proofs.Turns.{start_next, part_within, rise_from, input_no, input_on, input_end}
-use borrow.Author.Rules.{rules}
+use Rattle.stimulus.proofs.Turns.{rise_from}
 use Rattle.stimulus.proofs.each_rises.Given as goal
 
 abbrev pub invariant-loop-i : goal.invariant-loop-i

@@ -1,10 +1,6 @@
 -- `rises` meets its contract: the loop stands at place k, the times before it rising to the last of them.
-use Prim.Native.Nat.{◌-◌}
-use mathlib.Core.Path.{◌≡◌, refl}
-use lib.ListN.{length, drop}
-use Rattle.method.specs.Times.{rise_above}
+use mathlib.Core.Path.{refl}
 use Rattle.stimulus.proofs.Turns.{rise_on, rise_stop, rise_end}
-use borrow.Author.Rules.{rules}
 use Rattle.stimulus.proofs.rises.Goals as goal
 
 pub loop-k-init : goal.loop-k-init

@@ -1,10 +1,8 @@
 -- `rises` meets its contract: the loop stands at place k, the times before it rising to the last of them.
 use Prim.Native.Nat.{◌-◌}
-use mathlib.Core.Path.{◌≡◌, refl}
+use mathlib.Core.Path.{◌≡◌}
 use lib.ListN.{length, drop}
 use Rattle.method.specs.Times.{rise_above}
-use Rattle.stimulus.proofs.Turns.{rise_on, rise_stop, rise_end}
-use borrow.Author.Rules.{rules}
 use Rattle.stimulus.proofs.rises.Given as goal
 
 abbrev pub invariant-loop-k : goal.invariant-loop-k

@@ -1,14 +1,11 @@
 -- `times_suit` meets its contract: the loop stands at place k, each time before it being from 1 to the last.
 use Prim.Native.Nat.{◌-◌}
-use mathlib.Core.Path.{◌≡◌, refl, sym, ◌∙◌}
+use mathlib.Core.Path.{◌≡◌}
 use mathlib.Core.List.{map}
 use lib.ListN.{length, drop}
-use borrow.Author.Tests.{not-true, not-false}
 use Rattle.lists.specs.Ladder.{between}
 use Rattle.lists.specs.Tables.{every}
 use Rattle.method.specs.Changes.{last_change}
-use Rattle.stimulus.proofs.Turns.{each_no, each_on, each_end}
-use borrow.Author.Rules.{rules}
 use Rattle.stimulus.proofs.times_suit.Given as goal
 
 abbrev pub invariant-loop-k : goal.invariant-loop-k

@@ -1,11 +1,7 @@
 -- `total` meets its contract: at input i the sum is where its times start, and at most 255 for each input before it.
-use Prim.Native.Nat.{◌*◌, ◌-◌, ◌≤◌}
-use mathlib.Core.Path.{◌≡◌, refl}
+use mathlib.Core.Path.{refl}
 use native.Mathlib.Omega.{arith}
-use lib.ListN.{length}
-use Rattle.method.specs.Changes.{start_of}
 use Rattle.stimulus.proofs.Turns.{start_next, start_end}
-use borrow.Author.Rules.{rules}
 use Rattle.stimulus.proofs.total.Goals as goal
 
 pub loop-i-init : goal.loop-i-init

@@ -1,11 +1,8 @@
 -- `total` meets its contract: at input i the sum is where its times start, and at most 255 for each input before it.
 use Prim.Native.Nat.{◌*◌, ◌-◌, ◌≤◌}
-use mathlib.Core.Path.{◌≡◌, refl}
-use native.Mathlib.Omega.{arith}
+use mathlib.Core.Path.{◌≡◌}
 use lib.ListN.{length}
 use Rattle.method.specs.Changes.{start_of}
-use Rattle.stimulus.proofs.Turns.{start_next, start_end}
-use borrow.Author.Rules.{rules}
 use Rattle.stimulus.proofs.total.Given as goal
 
 abbrev pub invariant-loop-i : goal.invariant-loop-i

@@ -1,6 +1,5 @@
 -- `put` meets its contract. Past the end nothing is written.
 use Rattle.text.proofs.Putting.{wrote_past}
-use borrow.Author.Rules.{rules}
 use Rattle.text.proofs.put.Goals as goal
 
 pub returns-then-output-at : goal.returns-then-output-at

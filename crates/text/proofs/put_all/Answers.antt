@@ -1,10 +1,5 @@
 -- `put_all` meets its contract. After k turns the first k bytes are written.
-use Prim.Native.Nat.{◌-◌}
-use native.Mathlib.Omega.{arith}
-use lib.ListN.{length, take}
-use Rattle.text.specs.Wrote.{Wrote}
 use Rattle.text.proofs.Putting.{wrote_nothing, wrote_same, wrote_byte, wrote_bytes}
-use borrow.Author.Rules.{rules}
 use Rattle.text.proofs.put_all.Goals as goal
 
 pub loop-k-init : goal.loop-k-init

@@ -1,6 +1,5 @@
 -- `put_digit` meets its contract. A power that n does not reach has no digit.
 use Rattle.text.proofs.Spelling.{digit_none, digit_one}
-use borrow.Author.Rules.{rules}
 use Rattle.text.proofs.put_digit.Goals as goal
 
 pub returns-then-n-power : goal.returns-then-n-power

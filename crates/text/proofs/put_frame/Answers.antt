@@ -1,6 +1,5 @@
 -- `put_frame` meets its contract. It is its pieces one behind the other.
 use Rattle.text.proofs.Spelling.{bit_small, frame_put}
-use borrow.Author.Rules.{rules}
 use Rattle.text.proofs.put_frame.Goals as goal
 
 pub overflow_add-level : goal.overflow_add-level

@@ -1,6 +1,5 @@
 -- `put_number` meets its contract. It is its digits one behind the other.
 use Rattle.text.proofs.Spelling.{number_put}
-use borrow.Author.Rules.{rules}
 use Rattle.text.proofs.put_number.Goals as goal
 
 pub returns : goal.returns

@@ -1,6 +1,5 @@
 -- `put_refused` meets its contract. It is its pieces one behind the other.
 use Rattle.text.proofs.Spelling.{refusal_put}
-use borrow.Author.Rules.{rules}
 use Rattle.text.proofs.put_refused.Goals as goal
 
 pub returns : goal.returns

@@ -1,9 +1,7 @@
 -- `words::differing` meets its contract. The loop goes from the last word to the first: the lanes so far are those in which a word from i on differs.
-use Prim.Native.Nat.{◌+◌, ◌-◌, ◌≤◌}
+use Prim.Native.Nat.{◌+◌, ◌-◌}
 use mathlib.Core.Path.{◌≡◌, ◌∙◌}
 use native.Mathlib.Omega.{arith}
-use lib.ListN.{take, drop}
-use Rattle.words.specs.Steps.{differing_lanes}
 use Rattle.words.proofs.Keeping.{from_last, one_earlier}
 use borrow.Author.Rules.{rules}
 use Rattle.words.proofs.differing.Goals as goal

@@ -1,11 +1,8 @@
 -- `words::differing` meets its contract. The loop goes from the last word to the first: the lanes so far are those in which a word from i on differs.
-use Prim.Native.Nat.{◌+◌, ◌-◌, ◌≤◌}
-use mathlib.Core.Path.{◌≡◌, ◌∙◌}
-use native.Mathlib.Omega.{arith}
+use Prim.Native.Nat.{◌≤◌}
+use mathlib.Core.Path.{◌≡◌}
 use lib.ListN.{take, drop}
 use Rattle.words.specs.Steps.{differing_lanes}
-use Rattle.words.proofs.Keeping.{from_last, one_earlier}
-use borrow.Author.Rules.{rules}
 use Rattle.words.proofs.differing.Given as goal
 
 abbrev pub invariant-loop-i : goal.invariant-loop-i

@@ -1,10 +1,7 @@
 -- `words::filter` meets its contract. Frame 0 stands; then the whole is what is decided, followed by the filter of the rest, which is still raw.
-use Prim.Native.Nat.{◌-◌, ◌≤◌}
-use mathlib.Core.Path.{◌≡◌}
-use mathlib.Core.List.{◌++◌}
 use native.Mathlib.Omega.{arith}
-use lib.ListN.{length, take, drop, length-set}
-use Rattle.words.proofs.Filtering.{kept_from, kept_all, not_indexed, no_frames_lem, filter_start, filter_turn, filter_end}
+use lib.ListN.{length, length-set}
+use Rattle.words.proofs.Filtering.{not_indexed, no_frames_lem, filter_start, filter_turn, filter_end}
 use borrow.Author.Rules.{rules}
 use Rattle.words.proofs.filter.Goals as goal
 

@@ -2,10 +2,8 @@
 use Prim.Native.Nat.{◌-◌, ◌≤◌}
 use mathlib.Core.Path.{◌≡◌}
 use mathlib.Core.List.{◌++◌}
-use native.Mathlib.Omega.{arith}
-use lib.ListN.{length, take, drop, length-set}
-use Rattle.words.proofs.Filtering.{kept_from, kept_all, not_indexed, no_frames_lem, filter_start, filter_turn, filter_end}
-use borrow.Author.Rules.{rules}
+use lib.ListN.{length, take, drop}
+use Rattle.words.proofs.Filtering.{kept_from, kept_all}
 use Rattle.words.proofs.filter.Given as goal
 
 abbrev pub invariant-loop-k : goal.invariant-loop-k

@@ -2,7 +2,6 @@
 use Prim.Native.Nat.{◌+◌}
 use native.Mathlib.Omega.{arith}
 use Rattle.words.proofs.Keeping.{none_counts, one_counts, more_count}
-use borrow.Author.Rules.{rules}
 use Rattle.words.proofs.kept.Goals as goal
 
 pub returns-then-n-eq0 : goal.returns-then-n-eq0

@@ -2,7 +2,6 @@
 use mathlib.Core.Path.{refl}
 use native.Mathlib.Omega.{arith}
 use Rattle.editions.proofs.Widths.{wide_delay, narrow_delay, two_bytes_lem, one_byte}
-use borrow.Author.Rules.{rules}
 use Rattle.editions.proofs.bytes.delay_at.Goals as goal
 
 pub number_in-requires : goal.number_in-requires
