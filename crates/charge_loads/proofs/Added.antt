@@ -9,7 +9,7 @@ use mathlib.Core.List.{List, [], ◌∷◌, ◌++◌, map}
 use native.Mathlib.Numerals.{add-one}
 use lib.ListN.{length, get_or, drop, drop_of_length-le}
 use lib.Seq.{drop-cons, drop-length}
-use lib.Ieee.{Float, binary64, add, fits, of_bits, of_int}
+use lib.Ieee.{Float, binary64, add, of_bits, of_int}
 use borrow.Author.Tests.{le-leb, lt-leb}
 use Rattle.lists.proofs.Choices.{either}
 use Rattle.method.specs.Words.{lane}
@@ -39,10 +39,15 @@ added_frame load v w ws total = elim (either (beq w v)) [ inl e ↦ rw e | inr e
 abbrev pub Left : Load → ℕ → List ℕ → ℕ → Bool → Float → Float
 Left load L values k before sum = added (charges_after load before (map (lane L) (drop k values))) sum
 
+-- frame 0 is no change
+first_apart : (load : Load) (L : ℕ) (values : List ℕ) → charges load (map (lane L) values) ≡ charges_after load (lane L (get_or values 0 0)) (map (lane L) (drop 1 values))
+unfolding charges charges_after
+first_apart load L [] = refl
+first_apart load L (v ∷ vs) = refl
+
 module _ (load : Load) (L : ℕ) (values : List ℕ) where
   pub frames_start : (total : Float) {first : ℕ} {before : Bool} → first ≡ get_or values 0 0 → before ≡ lane L first → added (charges load (map (lane L) values)) total ≡ Left load L values 1 before total
-  unfolding charges charges_after
-  frames_start total e f = rw (f, e) (elim values [ [] ↦ refl | v ∷ vs ↦ refl ])
+  frames_start total e f = rw (f, e) (ap (λ (qs : List Float). added qs total) (first_apart load L values))
 
   module _ (k : ℕ) (before : Bool) (sum : Float) {whole : Float} (h : whole ≡ Left load L values k before sum) where
     pub frames_on : k < length values → {level : Bool} {next : Float} → level ≡ lane L (get_or values k 0) → next ≡ drawn_at load before level sum → whole ≡ Left load L values (k + 1) level next
@@ -89,8 +94,3 @@ module _ (levels : ℕ → List Bool) (list : List Load) where
   unfolding charges_from
   total_on i total next l e =
       rw (add-one i, drop-cons list i no_load l, e) (sym (added_append (charges (get_or list i no_load) (levels i)) (charges_from levels (suc i) (drop (suc i) list)) total))
-
--- 0.0 is an f64
-pub zero_fits : fits binary64 (of_bits binary64 0) ≡ true
-unfolding fits of_bits
-zero_fits = refl

@@ -63,7 +63,7 @@ fn after_net<'a>(
     after_frames(part, lane, load, total)
 }
 
-// The total of all nets, each with its load, in order. Proved by hand, as the list of loads is lent.
+// The total of all nets, each with its load, in order.
 pub fn charge_of_nets<'a>(
     directory: &'a [u16],
     values: &'a [u64],

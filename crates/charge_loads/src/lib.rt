@@ -1,5 +1,6 @@
 // Loads of nets: how many nets a list of them suits, and the charge that their changes draw in a run that lies in areas.
 #![tactic(auto)]
+
 pub mod drawing;
 pub mod listing;
 

@@ -44,7 +44,7 @@ fn one_more(load: Load, nets: u32) -> u32
     nets + 1
 }
 
-// How many nets the list suits, or more than any circuit has where it suits none. Proved by hand, as the list is lent.
+// How many nets the list suits, or more than any circuit has where it suits none.
 pub fn nets_loaded<'a>(list: &'a [Load]) -> u32
     ensures { result ≡ nets_loaded list.now }
 {
