@@ -1,6 +1,7 @@
-// The calls as C functions, over plain numbers and slices: a slice is a pointer and a length. Each answers 0, with the numbers of its
-// answer in a lent array; or the number of the first "no", and leaves that array as it was. `host/include/mazhorukku.h` has them in C.
+// The calls over plain numbers and slices, as C has them: `export_c` gives each to C. Each answers 0, with the numbers of its answer in a
+// lent array; or the number of the first "no", and leaves that array as it was.
 #![tactic(auto)]
+
 ghost use Rattle.std.specs.Prelude.{◌≡◌};
 ghost use Rattle.method.specs.Areas.{areas as planned};
 ghost use Rattle.method.specs.WordLists.{word_lists};
@@ -24,16 +25,14 @@ use records::{RECORD_LENGTH, mark_first, records_of, records_suit};
 const NO_RECORDS: u32 = 100;
 
 // Reads a circuit file: I and G.
-#[unsafe(no_mangle)]
-pub extern "C" fn mazh_read(file: &[u8], nets: &mut [u32; 2]) -> u32
+pub fn mazh_read(file: &[u8], nets: &mut [u32; 2]) -> u32
     ensures { numbers result nets.new ≡ in_numbers net_numbers nets.old (read_of file.now) }
 {
     give_nets(circuit::read(file), nets)
 }
 
 // Plan: the frames, the fan-in entries and the last potential time.
-#[unsafe(no_mangle)]
-pub extern "C" fn mazh_plan(
+pub fn mazh_plan(
     file: &[u8],
     counts: &[u8],
     changes: &[Tick],
@@ -53,8 +52,7 @@ pub extern "C" fn mazh_plan(
 }
 
 // Run: the totals of Plan.
-#[unsafe(no_mangle)]
-pub extern "C" fn mazh_run(
+pub fn mazh_run(
     file: &[u8],
     counts: &[u8],
     changes: &[Tick],
@@ -77,8 +75,7 @@ pub extern "C" fn mazh_run(
 }
 
 // Size: the totals of Plan.
-#[unsafe(no_mangle)]
-pub extern "C" fn mazh_size(
+pub fn mazh_size(
     file: &[u8],
     counts: &[u8],
     changes: &[Tick],
@@ -91,8 +88,7 @@ pub extern "C" fn mazh_size(
 }
 
 // The fitted Run: the totals of Plan.
-#[unsafe(no_mangle)]
-pub extern "C" fn mazh_run_fitted(
+pub fn mazh_run_fitted(
     file: &[u8],
     counts: &[u8],
     changes: &[Tick],
@@ -115,59 +111,42 @@ pub extern "C" fn mazh_run_fitted(
 }
 
 // Level: the level, the frame's begin and its end, which is 0 where it has none.
-#[unsafe(no_mangle)]
-pub extern "C" fn mazh_level(
-    times: &[Tick],
-    values: &[u64],
-    lane: u8,
-    time: Tick,
-    sight: &mut [u32; 3],
-) -> u32
+pub fn mazh_level(times: &[Tick], values: &[u64], lane: u8, time: Tick, sight: &mut [u32; 3]) -> u32
     ensures { numbers result sight.new ≡ in_numbers sight_numbers sight.old (level_of times.now values.now lane time) }
 {
     give_sight(looks::level(times, values, lane, Time(time)), sight)
 }
 
 // Count: how many changes.
-#[unsafe(no_mangle)]
-pub extern "C" fn mazh_count(
-    times: &[Tick],
-    values: &[u64],
-    lane: u8,
-    changes: &mut [u32; 1],
-) -> u32
+pub fn mazh_count(times: &[Tick], values: &[u64], lane: u8, changes: &mut [u32; 1]) -> u32
     ensures { numbers result changes.new ≡ in_numbers one_number changes.old (count_of times.now values.now lane) }
 {
     give_changes(looks::count(times, values, lane), changes)
 }
 
 // From the former edition of the circuit file to the present one: the length of the file written.
-#[unsafe(no_mangle)]
-pub extern "C" fn mazh_newer(file: &[u8], area: &mut [u8], length: &mut [u32; 1]) -> u32
+pub fn mazh_newer(file: &[u8], area: &mut [u8], length: &mut [u32; 1]) -> u32
     ensures { numbered (numbers result length.new) area.new ≡ outcome_in one_number length.old (newer_of file.now area.old) }
 {
     give_length(converter::newer(file, area), length)
 }
 
 // From the present edition to the former one.
-#[unsafe(no_mangle)]
-pub extern "C" fn mazh_older(file: &[u8], area: &mut [u8], length: &mut [u32; 1]) -> u32
+pub fn mazh_older(file: &[u8], area: &mut [u8], length: &mut [u32; 1]) -> u32
     ensures { numbered (numbers result length.new) area.new ≡ outcome_in one_number length.old (older_of file.now area.old) }
 {
     give_length(converter::older(file, area), length)
 }
 
 // From the file's own edition to the other.
-#[unsafe(no_mangle)]
-pub extern "C" fn mazh_other(file: &[u8], area: &mut [u8], length: &mut [u32; 1]) -> u32
+pub fn mazh_other(file: &[u8], area: &mut [u8], length: &mut [u32; 1]) -> u32
     ensures { numbered (numbers result length.new) area.new ≡ outcome_in one_number length.old (other_of file.now area.old) }
 {
     give_length(converter::other(file, area), length)
 }
 
 // Mark, with the expectations as bytes: 1 where all are met; else 0, the position and the frame of the first that is not.
-#[unsafe(no_mangle)]
-pub extern "C" fn mazh_mark<'a>(
+pub fn mazh_mark<'a>(
     file: &'a [u8],
     counts: &'a [u8],
     changes: &'a [Tick],

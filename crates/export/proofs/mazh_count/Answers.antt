@@ -1,0 +1,7 @@
+-- `mazh_count` meets its contract: what the call says of its answer, in numbers.
+use Rattle.answers.specs.Numbers.{one_number}
+use Rattle.answers.proofs.Given.{given_answer}
+use Rattle.export.proofs.mazh_count.Goals as goal
+
+pub returns : goal.returns
+returns c = given_answer one_number c.args.changes.now c.give_changes.ensures c.count.ensures
