@@ -9,7 +9,7 @@ outside=target/bin/outside
 convert=target/bin/convert
 for program in wave outside convert; do
   if [ $# = 0 ] && [ ! -x "target/bin/$program" ]; then
-    echo "target/bin/$program is not built yet: rt check $program builds it"
+    echo "target/bin/$program is not built yet: bash tools/programs.sh $program builds it"
     exit 1
   fi
 done

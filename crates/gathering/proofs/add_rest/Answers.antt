@@ -1,12 +1,8 @@
 -- `add_rest` meets its contract: the times from frame k on are still to be added.
-use Prim.Native.Nat.{◌+◌, ◌-◌, ◌≤◌}
-use mathlib.Core.Path.{◌≡◌, refl}
-use mathlib.Core.List.{◌++◌}
+use mathlib.Core.Path.{refl}
 use native.Mathlib.Omega.{arith}
-use lib.ListN.{length, take, drop, length-set}
-use Rattle.gathering.specs.Steps.{plus}
+use lib.ListN.{length-set}
 use Rattle.gathering.proofs.Merging.{rest_on, rest_end, rest_length}
-use borrow.Author.Rules.{rules}
 use Rattle.gathering.proofs.add_rest.Goals as goal
 
 pub loop-k-init : goal.loop-k-init

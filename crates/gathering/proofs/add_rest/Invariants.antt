@@ -1,12 +1,9 @@
 -- `add_rest` meets its contract: the times from frame k on are still to be added.
 use Prim.Native.Nat.{◌+◌, ◌-◌, ◌≤◌}
-use mathlib.Core.Path.{◌≡◌, refl}
+use mathlib.Core.Path.{◌≡◌}
 use mathlib.Core.List.{◌++◌}
-use native.Mathlib.Omega.{arith}
-use lib.ListN.{length, take, drop, length-set}
+use lib.ListN.{length, take, drop}
 use Rattle.gathering.specs.Steps.{plus}
-use Rattle.gathering.proofs.Merging.{rest_on, rest_end, rest_length}
-use borrow.Author.Rules.{rules}
 use Rattle.gathering.proofs.add_rest.Given as goal
 
 abbrev pub invariant-loop-k : goal.invariant-loop-k

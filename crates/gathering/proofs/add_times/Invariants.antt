@@ -1,15 +1,9 @@
 -- `add_times` meets its contract: the times from frame k on are still to be put in, none before `place`.
 use Prim.Native.Nat.{◌+◌, ◌-◌, ◌≤◌, ◌<◌}
-use mathlib.Core.Path.{◌≡◌, refl}
+use mathlib.Core.Path.{◌≡◌}
 use lib.ListN.{length, get_or, take, drop}
-use lib.Seq.{length-take-le}
-use native.Mathlib.Omega.{arith}
 use Rattle.lists.specs.Front.{leading}
 use Rattle.gathering.specs.Steps.{into}
-use Rattle.gathering.proofs.Inserting.{place_found, place_next, inserted}
-use Rattle.gathering.proofs.Spans.{own_next}
-use Rattle.gathering.proofs.Gathered.{into_on, into_end}
-use borrow.Author.Rules.{rules}
 use Rattle.gathering.proofs.add_times.Given as goal
 
 abbrev pub invariant-loop-k : goal.invariant-loop-k

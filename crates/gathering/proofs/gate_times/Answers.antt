@@ -4,7 +4,6 @@ use mathlib.Core.List.{[], ◌∷◌}
 use native.Mathlib.Omega.{arith}
 use Rattle.gathering.specs.Steps.{Span, spans}
 use Rattle.gathering.proofs.Spans.{two_spans, fanin_there, fanin_span}
-use borrow.Author.Rules.{rules}
 use Rattle.gathering.proofs.gate_times.Goals as goal
 
 pub fanin_at-requires : goal.fanin_at-requires

@@ -1,15 +1,13 @@
 -- `gather_times` meets its contract: the times of the fan-ins from e on are still to be put in.
-use Prim.Native.Nat.{◌+◌, ◌-◌, ◌*◌, ◌≤◌}
-use mathlib.Core.Path.{◌≡◌, ◌∙◌}
-use mathlib.Core.List.{[], ◌∷◌}
-use lib.ListN.{length, take, drop, length-set}
+use Prim.Native.Nat.{◌≤◌}
+use mathlib.Core.Path.{◌∙◌}
+use lib.ListN.{length, take, length-set}
 use lib.Seq.{length-take-le}
 use native.Mathlib.Omega.{arith}
 use Rattle.method.specs.Limits.{most_net_frames}
 use Rattle.gathering.specs.Steps.{spans}
-use Rattle.gathering.proofs.Gathered.{gather, gather_on, gather_end, gathered, one_in}
+use Rattle.gathering.proofs.Gathered.{gather_on, gather_end, gathered, one_in}
 use Rattle.gathering.proofs.Spans.{spans_start, spans_end, next_at, fanin_there, fanin_few, fanin_early}
-use borrow.Author.Rules.{rules}
 use Rattle.gathering.proofs.gather_times.Goals as goal
 
 pub loop-e-init : goal.loop-e-init

@@ -1,15 +1,11 @@
 -- `gather_times` meets its contract: the times of the fan-ins from e on are still to be put in.
 use Prim.Native.Nat.{◌+◌, ◌-◌, ◌*◌, ◌≤◌}
-use mathlib.Core.Path.{◌≡◌, ◌∙◌}
+use mathlib.Core.Path.{◌≡◌}
 use mathlib.Core.List.{[], ◌∷◌}
-use lib.ListN.{length, take, drop, length-set}
-use lib.Seq.{length-take-le}
-use native.Mathlib.Omega.{arith}
+use lib.ListN.{length, take, drop}
 use Rattle.method.specs.Limits.{most_net_frames}
 use Rattle.gathering.specs.Steps.{spans}
-use Rattle.gathering.proofs.Gathered.{gather, gather_on, gather_end, gathered, one_in}
-use Rattle.gathering.proofs.Spans.{spans_start, spans_end, next_at, fanin_there, fanin_few, fanin_early}
-use borrow.Author.Rules.{rules}
+use Rattle.gathering.proofs.Gathered.{gather}
 use Rattle.gathering.proofs.gather_times.Given as goal
 
 abbrev pub invariant-loop-e : goal.invariant-loop-e

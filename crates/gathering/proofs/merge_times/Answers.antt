@@ -1,15 +1,11 @@
 -- `merge_times` meets its contract: what is put, and the merge of the times from the frames i and j on, are the gate's times.
-use Prim.Native.Nat.{◌+◌, ◌-◌, ◌≤◌}
 use mathlib.Core.Path.{◌≡◌}
-use mathlib.Core.List.{[], ◌∷◌, ◌++◌}
 use native.Mathlib.Omega.{arith}
-use lib.ListN.{length, get_or, take, drop, length-set}
-use Rattle.method.specs.Times.{gate_times}
+use lib.ListN.{length, get_or, length-set}
 use Rattle.method.proofs.Rising.{Starts, test_starts}
 use Rattle.circuit.specs.Limits.{most_time}
 use Rattle.gathering.proofs.Spans.{own_some}
-use Rattle.gathering.proofs.Merging.{union, by_one, by_some, earlier_low, merge_none, merge_on, merge_left, merge_right, added, rest_length}
-use borrow.Author.Rules.{rules}
+use Rattle.gathering.proofs.Merging.{by_one, by_some, earlier_low, merge_none, merge_on, merge_left, merge_right, added, rest_length}
 use Rattle.gathering.proofs.merge_times.Goals as goal
 
 pub loop-i-init : goal.loop-i-init

@@ -2,14 +2,9 @@
 use Prim.Native.Nat.{◌+◌, ◌-◌, ◌≤◌}
 use mathlib.Core.Path.{◌≡◌}
 use mathlib.Core.List.{[], ◌∷◌, ◌++◌}
-use native.Mathlib.Omega.{arith}
-use lib.ListN.{length, get_or, take, drop, length-set}
+use lib.ListN.{length, take, drop}
 use Rattle.method.specs.Times.{gate_times}
-use Rattle.method.proofs.Rising.{Starts, test_starts}
-use Rattle.circuit.specs.Limits.{most_time}
-use Rattle.gathering.proofs.Spans.{own_some}
-use Rattle.gathering.proofs.Merging.{union, by_one, by_some, earlier_low, merge_none, merge_on, merge_left, merge_right, added, rest_length}
-use borrow.Author.Rules.{rules}
+use Rattle.gathering.proofs.Merging.{union}
 use Rattle.gathering.proofs.merge_times.Given as goal
 
 abbrev pub invariant-loop-i : goal.invariant-loop-i

@@ -1,8 +1,6 @@
 -- `put_time` meets its contract: the place is behind the times at the front that are earlier.
-use mathlib.Core.Logic.{⊎_elim}
 use native.Mathlib.Omega.{arith}
 use Rattle.gathering.proofs.Inserting.{place_within, insert_kept, insert_put}
-use borrow.Author.Rules.{rules}
 use Rattle.gathering.proofs.put_time.Goals as goal
 use Rattle.gathering.proofs.put_time.Goals.{then-place-count+else-here-t, else-place-count}
 

@@ -1,9 +1,8 @@
 -- `shift` meets its contract: after each turn the numbers from place i on stand one place on.
-use Prim.Native.Nat.{◌≤◌}
 use mathlib.Core.Path.{◌≡◌, ◌∙◌}
-use lib.ListN.{length, length-set}
+use lib.ListN.{length-set}
 use native.Mathlib.Omega.{arith}
-use Rattle.gathering.proofs.Inserting.{moved, shift_none, shift_on}
+use Rattle.gathering.proofs.Inserting.{shift_none, shift_on}
 use borrow.Author.Rules.{rules}
 use Rattle.gathering.proofs.shift.Goals as goal
 

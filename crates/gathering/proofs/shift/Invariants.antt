@@ -1,10 +1,8 @@
 -- `shift` meets its contract: after each turn the numbers from place i on stand one place on.
 use Prim.Native.Nat.{◌≤◌}
-use mathlib.Core.Path.{◌≡◌, ◌∙◌}
-use lib.ListN.{length, length-set}
-use native.Mathlib.Omega.{arith}
-use Rattle.gathering.proofs.Inserting.{moved, shift_none, shift_on}
-use borrow.Author.Rules.{rules}
+use mathlib.Core.Path.{◌≡◌}
+use lib.ListN.{length}
+use Rattle.gathering.proofs.Inserting.{moved}
 use Rattle.gathering.proofs.shift.Given as goal
 
 abbrev pub invariant-loop-i : goal.invariant-loop-i

@@ -1,7 +1,6 @@
 -- `times_of` meets its contract: the pair of the net says where its times stand.
 use mathlib.Core.Path.{refl}
 use Rattle.method.proofs.Laying.{part_read}
-use borrow.Author.Rules.{rules}
 use Rattle.gathering.proofs.times_of.Goals as goal
 
 pub returns : goal.returns
