@@ -2,7 +2,6 @@
 use mathlib.Core.Path.{refl}
 use native.Mathlib.Omega.{arith}
 use Rattle.counting.proofs.Walking.{opened, begun}
-use borrow.Author.Rules.{rules}
 use Rattle.counting.proofs.count.Goals as goal
 
 pub add_inputs-start-requires : goal.add_inputs-start-requires

@@ -1,15 +1,9 @@
 -- `count_gates` meets its contract: j gates are counted; once the gates so far have too many frames, so has the whole circuit.
-use Prim.Native.Nat.{◌+◌, ◌-◌, ◌≤◌}
-use mathlib.Core.Path.{◌≡◌, refl}
-use native.Mathlib.Omega.{arith}
+use Prim.Native.Nat.{◌-◌, ◌≤◌}
+use mathlib.Core.Path.{◌≡◌}
 use lib.ListN.{length}
-use Rattle.circuit.specs.File.{circuit_of}
-use Rattle.circuit.specs.Task.{task_of, moments_in}
-use Rattle.circuit.proofs.Parts.{gates_length, few}
-use Rattle.method.proofs.Fitting.{gave_up}
+use Rattle.circuit.specs.Task.{task_of}
 use Rattle.counting.specs.Steps.{Counting}
-use Rattle.counting.proofs.Walking.{totalled, totalled_none}
-use borrow.Author.Rules.{rules}
 use Rattle.counting.proofs.count_gates.Given as goal
 
 abbrev pub invariant-loop-j : goal.invariant-loop-j

@@ -1,7 +1,6 @@
 -- `run` meets its contract: a "no" before 13 and 22 writes nothing, and `simulate` does the rest.
 use Rattle.engine.proofs.Asking.{asked_no, asked_none, asked_yes}
 use Rattle.engine.proofs.Answering.{run_no, run_yes}
-use borrow.Author.Rules.{rules}
 use Rattle.engine.proofs.run.Goals as goal
 
 pub simulate-requires : goal.simulate-requires

@@ -5,7 +5,6 @@ use lib.ListN.{get_or}
 use Rattle.method.specs.Words.{lanes}
 use Rattle.method.specs.WordLists.{word_lists}
 use Rattle.evaluation.proofs.Valued.{fed, evaluated}
-use borrow.Author.Rules.{rules}
 use Rattle.evaluation.proofs.evaluate.Goals as goal
 
 pub input_words-requires : goal.input_words-requires

@@ -4,7 +4,6 @@ use native.Mathlib.Omega.{arith}
 use lib.ListN.{length}
 use Rattle.method.proofs.Laying.{pair_stored}
 use Rattle.gathering.proofs.Spans.{own_some}
-use borrow.Author.Rules.{rules}
 use Rattle.framing.proofs.store_times.Goals as goal
 
 pub overflow_sub-end : goal.overflow_sub-end

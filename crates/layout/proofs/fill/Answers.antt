@@ -4,7 +4,6 @@ use Rattle.circuit.specs.Task.{task_of}
 use Rattle.layout.proofs.Starting.{inputs_open, inputs_none, going_none}
 use Rattle.layout.proofs.Stepping.{given_alike}
 use Rattle.layout.proofs.Filling.{filled_now, filled_none}
-use borrow.Author.Rules.{rules}
 use Rattle.layout.proofs.fill.Goals as goal
 
 pub add_inputs-start-requires : goal.add_inputs-start-requires

@@ -1,7 +1,6 @@
 -- `fill_within` meets its contract: the areas are filled, and cleared again where the total is above the limit.
 use native.Mathlib.Omega.{arith}
 use Rattle.limiting.proofs.Within.{within_13, within_22, within_yes}
-use borrow.Author.Rules.{rules}
 use mathlib.Core.Path.{ap}
 use mathlib.Core.Bool.{not}
 use Rattle.limiting.proofs.fill_within.Goals as goal

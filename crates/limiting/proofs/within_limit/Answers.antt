@@ -1,6 +1,5 @@
 -- `within_limit` meets its contract: the limit is asked first, then the total.
 use Rattle.limiting.proofs.Last.{senseless, by_total}
-use borrow.Author.Rules.{rules}
 use mathlib.Core.Path.{ap}
 use mathlib.Core.Bool.{not}
 use Rattle.limiting.proofs.within_limit.Goals as goal

@@ -1,7 +1,6 @@
 -- `count` meets its contract: where no question is answered no, there are at most 64 frames, and `changes` counts them.
 use native.Mathlib.Omega.{arith}
 use Rattle.looks.proofs.Seeing.{answered, count_no, count_yes}
-use borrow.Author.Rules.{rules}
 use Rattle.looks.proofs.count.Goals as goal
 
 pub returns-then-fault-ne0 : goal.returns-then-fault-ne0

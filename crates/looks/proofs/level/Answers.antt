@@ -1,6 +1,5 @@
 -- `looks::level` meets its contract. Without a "no" it is what is seen at the last frame not later than the time.
 use Rattle.looks.proofs.Seeing.{answered, level_no, level_yes}
-use borrow.Author.Rules.{rules}
 use Rattle.looks.proofs.level.Goals as goal
 
 pub returns-then-fault-ne0 : goal.returns-then-fault-ne0

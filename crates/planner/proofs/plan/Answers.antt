@@ -1,7 +1,6 @@
 -- `plan` meets its contract: the questions in their order; the areas are filled only after 10 and 20.
 use mathlib.Core.Path.{◌∙◌}
 use Rattle.planner.proofs.Calling.{plan_read, plan_10, plan_20, fill_given, plan_last}
-use borrow.Author.Rules.{rules}
 use mathlib.Core.Path.{ap}
 use mathlib.Core.Bool.{not}
 use Rattle.planner.proofs.plan.Goals as goal

@@ -1,7 +1,6 @@
 -- `simulate` meets its contract: the areas are filled within the limit, and evaluated if the frames are kept.
 use Rattle.limiting.proofs.Within.{within_no, within_kept}
 use Rattle.simulation.proofs.Laid.{planned, driven, simulated_no, simulated_yes}
-use borrow.Author.Rules.{rules}
 use Rattle.simulation.proofs.simulate.Goals as goal
 
 pub evaluate-requires : goal.evaluate-requires

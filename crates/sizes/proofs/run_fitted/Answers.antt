@@ -1,10 +1,9 @@
 -- `run_fitted` meets its contract: a "no" writes nothing, and `simulate` does the rest.
-use Rattle.method.specs.WordLists.{WordLists, word_lists, lengths_of}
-use Rattle.circuit.specs.Task.{Task, task_of}
-use Rattle.engine.specs.Areas.{Areas, areas}
+use Rattle.method.specs.WordLists.{word_lists, lengths_of}
+use Rattle.circuit.specs.Task.{task_of}
+use Rattle.engine.specs.Areas.{areas}
 use Rattle.sizes.proofs.Asking.{asked_no, asked_yes}
 use Rattle.sizes.proofs.Answering.{ready, fitted_no, fitted_yes}
-use borrow.Author.Rules.{rules}
 use Rattle.sizes.proofs.run_fitted.Goals as goal
 
 pub simulate-requires : goal.simulate-requires

@@ -1,8 +1,7 @@
 -- `size` meets its contract: the questions in their order.
 use mathlib.Core.Path.{◌∙◌}
-use Rattle.circuit.specs.Task.{Task, task_of}
+use Rattle.circuit.specs.Task.{task_of}
 use Rattle.sizes.proofs.Sizing.{size_read, size_20, size_asked, size_last}
-use borrow.Author.Rules.{rules}
 use mathlib.Core.Path.{ap}
 use mathlib.Core.Bool.{not}
 use Rattle.sizes.proofs.size.Goals as goal

@@ -1,6 +1,6 @@
 -- `faults::own_fault` meets its contract: the planner asks four lengths, `stimulus` asks 11 and 20.
-use Rattle.method.specs.Changes.{Schedule, schedule}
-use Rattle.method.specs.WordLists.{Lengths, word_lists, lengths_of}
+use Rattle.method.specs.Changes.{schedule}
+use Rattle.method.specs.WordLists.{word_lists, lengths_of}
 use Rattle.engine.proofs.Asking.{plan_no, values_no, words_no, changes_no, none_20}
 use borrow.Author.Rules.{rules}
 use mathlib.Core.Path.{ap}

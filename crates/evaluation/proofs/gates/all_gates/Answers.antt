@@ -1,17 +1,13 @@
 -- `evaluation::gates::all_gates` meets its contract. After j gates the area holds the words of the inputs and of these gates.
-use Prim.Native.Nat.{◌+◌, ◌-◌, ◌≤◌, ◌<◌}
+use Prim.Native.Nat.{◌+◌, ◌<◌}
 use mathlib.Core.Path.{◌≡◌, refl}
 use native.Mathlib.Omega.{arith}
 use native.Mathlib.Nat.{add-zero}
-use lib.ListN.{length, take}
-use Rattle.method.specs.WordLists.{WordLists}
+use lib.ListN.{length}
 use Rattle.circuit.specs.File.{gates_of}
-use Rattle.circuit.specs.Task.{task_of, frames_in}
-use Rattle.method.specs.Layout.{all_fanins}
 use Rattle.circuit.proofs.Parts.{lies, few}
-use Rattle.evaluation.specs.Steps.{Holds, Ready}
+use Rattle.evaluation.specs.Steps.{Ready}
 use Rattle.evaluation.proofs.Gating.{rows_start_lem, turn_ready, turn_rows, turn_holds}
-use borrow.Author.Rules.{rules}
 use Rattle.evaluation.proofs.gates.all_gates.Goals as goal
 
 pub loop-j-init : goal.loop-j-init

@@ -1,17 +1,11 @@
 -- `evaluation::gates::all_gates` meets its contract. After j gates the area holds the words of the inputs and of these gates.
-use Prim.Native.Nat.{◌+◌, ◌-◌, ◌≤◌, ◌<◌}
-use mathlib.Core.Path.{◌≡◌, refl}
-use native.Mathlib.Omega.{arith}
-use native.Mathlib.Nat.{add-zero}
+use Prim.Native.Nat.{◌+◌, ◌-◌, ◌≤◌}
+use mathlib.Core.Path.{◌≡◌}
 use lib.ListN.{length, take}
 use Rattle.method.specs.WordLists.{WordLists}
-use Rattle.circuit.specs.File.{gates_of}
 use Rattle.circuit.specs.Task.{task_of, frames_in}
 use Rattle.method.specs.Layout.{all_fanins}
-use Rattle.circuit.proofs.Parts.{lies, few}
-use Rattle.evaluation.specs.Steps.{Holds, Ready}
-use Rattle.evaluation.proofs.Gating.{rows_start_lem, turn_ready, turn_rows, turn_holds}
-use borrow.Author.Rules.{rules}
+use Rattle.evaluation.specs.Steps.{Holds}
 use Rattle.evaluation.proofs.gates.all_gates.Given as goal
 
 abbrev pub invariant-loop-j : goal.invariant-loop-j

@@ -1,7 +1,6 @@
 -- `evaluation::gates::base_of` meets its contract. The net's first frame is in its pair.
 use Prim.Native.Nat.{◌*◌}
 use native.Mathlib.Omega.{arith}
-use borrow.Author.Rules.{rules}
 use Rattle.evaluation.proofs.gates.base_of.Goals as goal
 
 pub overflow_cast-result-2 : goal.overflow_cast-result-2

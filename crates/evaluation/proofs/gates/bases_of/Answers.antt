@@ -1,13 +1,11 @@
 -- `evaluation::gates::bases_of` meets its contract. After e entries the array has their nets' first frames.
-use Prim.Native.Nat.{ℕ, ◌-◌, ◌≤◌, ◌<◌}
-use mathlib.Core.Path.{◌≡◌, refl, ◌∙◌}
+use Prim.Native.Nat.{ℕ}
+use mathlib.Core.Path.{refl, ◌∙◌}
 use native.Mathlib.Omega.{arith}
-use lib.ListN.{length, get_or, length-set}
-use Rattle.method.specs.Kinds.{most_fanins}
+use lib.ListN.{length-set}
 use Rattle.circuit.specs.File.{fanin_at}
 use Rattle.method.specs.Layout.{first_frame}
 use Rattle.evaluation.proofs.Driving.{agrees_more}
-use borrow.Author.Rules.{rules}
 use Rattle.evaluation.proofs.gates.bases_of.Goals as goal
 
 pub loop-e-init : goal.loop-e-init

@@ -1,13 +1,10 @@
 -- `evaluation::gates::bases_of` meets its contract. After e entries the array has their nets' first frames.
 use Prim.Native.Nat.{ℕ, ◌-◌, ◌≤◌, ◌<◌}
-use mathlib.Core.Path.{◌≡◌, refl, ◌∙◌}
-use native.Mathlib.Omega.{arith}
-use lib.ListN.{length, get_or, length-set}
+use mathlib.Core.Path.{◌≡◌}
+use lib.ListN.{length, get_or}
 use Rattle.method.specs.Kinds.{most_fanins}
 use Rattle.circuit.specs.File.{fanin_at}
 use Rattle.method.specs.Layout.{first_frame}
-use Rattle.evaluation.proofs.Driving.{agrees_more}
-use borrow.Author.Rules.{rules}
 use Rattle.evaluation.proofs.gates.bases_of.Given as goal
 
 abbrev pub invariant-loop-e : goal.invariant-loop-e

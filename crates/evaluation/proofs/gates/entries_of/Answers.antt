@@ -3,7 +3,6 @@ use Prim.Native.Nat.{◌+◌, ◌*◌, ◌≤◌}
 use native.Mathlib.Omega.{arith}
 use native.Mathlib.Nat.{mul-le-mul_right}
 use lib.ListN.{get_or}
-use borrow.Author.Rules.{rules}
 use Rattle.evaluation.proofs.gates.entries_of.Goals as goal
 
 pub overflow_cast-result-2 : goal.overflow_cast-result-2

@@ -3,7 +3,6 @@ use Prim.Native.Nat.{◌*◌}
 use mathlib.Core.Path.{refl}
 use native.Mathlib.Omega.{arith}
 use Rattle.evaluation.proofs.Placing.{gate_still, gate_stored}
-use borrow.Author.Rules.{rules}
 use Rattle.evaluation.proofs.gates.gate_words.Goals as goal
 
 pub raw_words-requires : goal.raw_words-requires

@@ -1,15 +1,12 @@
 -- `evaluation::gates::input_words` meets its contract. After i inputs the area starts with their words, and the after words of
 -- the next start at `start`.
-use Prim.Native.Nat.{ℕ, ◌+◌, ◌-◌, ◌≤◌}
+use Prim.Native.Nat.{ℕ, ◌+◌, ◌≤◌}
 use mathlib.Core.Path.{◌≡◌, refl, ap, ◌∙◌}
 use native.Mathlib.Omega.{arith}
 use native.Mathlib.Numerals.{add-one}
-use lib.ListN.{length, get_or, take}
-use Rattle.method.specs.Changes.{start_of}
+use lib.ListN.{length, get_or}
 use Rattle.method.specs.WordLists.{word_lists}
-use Rattle.evaluation.specs.Steps.{input_words}
 use Rattle.evaluation.proofs.Driving.{inputs_none, input_after, input_room, inputs_more}
-use borrow.Author.Rules.{rules}
 use Rattle.evaluation.proofs.gates.input_words.Goals as goal
 
 pub loop-i-init : goal.loop-i-init

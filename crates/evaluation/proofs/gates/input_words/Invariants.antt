@@ -1,15 +1,11 @@
 -- `evaluation::gates::input_words` meets its contract. After i inputs the area starts with their words, and the after words of
 -- the next start at `start`.
-use Prim.Native.Nat.{ℕ, ◌+◌, ◌-◌, ◌≤◌}
-use mathlib.Core.Path.{◌≡◌, refl, ap, ◌∙◌}
-use native.Mathlib.Omega.{arith}
-use native.Mathlib.Numerals.{add-one}
-use lib.ListN.{length, get_or, take}
+use Prim.Native.Nat.{◌+◌, ◌-◌, ◌≤◌}
+use mathlib.Core.Path.{◌≡◌}
+use lib.ListN.{length, take}
 use Rattle.method.specs.Changes.{start_of}
 use Rattle.method.specs.WordLists.{word_lists}
 use Rattle.evaluation.specs.Steps.{input_words}
-use Rattle.evaluation.proofs.Driving.{inputs_none, input_after, input_room, inputs_more}
-use borrow.Author.Rules.{rules}
 use Rattle.evaluation.proofs.gates.input_words.Given as goal
 
 abbrev pub invariant-loop-i : goal.invariant-loop-i

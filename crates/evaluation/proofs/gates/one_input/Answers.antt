@@ -1,11 +1,8 @@
 -- `evaluation::gates::one_input` meets its contract. Behind the before word k after words are stored.
-use Prim.Native.Nat.{◌+◌, ◌-◌, ◌≤◌}
 use native.Mathlib.Omega.{arith}
 use lib.ListN.{length-set}
-use Rattle.lists.proofs.Storing.{Left, none}
-use Rattle.evaluation.specs.Steps.{after_words}
+use Rattle.lists.proofs.Storing.{none}
 use Rattle.evaluation.proofs.Driving.{after_more, after_all}
-use borrow.Author.Rules.{rules}
 use Rattle.evaluation.proofs.gates.one_input.Goals as goal
 
 pub loop-k-init : goal.loop-k-init

@@ -1,11 +1,7 @@
 -- `evaluation::gates::one_input` meets its contract. Behind the before word k after words are stored.
 use Prim.Native.Nat.{◌+◌, ◌-◌, ◌≤◌}
-use native.Mathlib.Omega.{arith}
-use lib.ListN.{length-set}
-use Rattle.lists.proofs.Storing.{Left, none}
+use Rattle.lists.proofs.Storing.{Left}
 use Rattle.evaluation.specs.Steps.{after_words}
-use Rattle.evaluation.proofs.Driving.{after_more, after_all}
-use borrow.Author.Rules.{rules}
 use Rattle.evaluation.proofs.gates.one_input.Given as goal
 
 abbrev pub invariant-loop-k : goal.invariant-loop-k

@@ -2,7 +2,6 @@
 use mathlib.Core.Path.{refl, sym}
 use native.Mathlib.Omega.{arith}
 use Rattle.evaluation.proofs.Placing.{readable, raw_kept, pair_bases}
-use borrow.Author.Rules.{rules}
 use Rattle.evaluation.proofs.gates.raw_words.Goals as goal
 
 pub base_of-x-requires : goal.base_of-x-requires

@@ -1,14 +1,11 @@
 -- `evaluation::rows::odd_of` meets its contract. After e entries the word has the lanes in which an odd number of these are 1.
-use Prim.Native.Nat.{◌-◌, ◌≤◌}
 use mathlib.Core.Path.{◌≡◌}
 use native.Mathlib.Omega.{arith}
 use native.Mathlib.Numerals.{add-one}
 use Rattle.lists.specs.Tables.{tabulate_from}
 use Rattle.lists.proofs.Tabled.{tabulate_snoc}
-use Rattle.evaluation.specs.Steps.{OddOf, sources}
 use Rattle.evaluation.proofs.Making.{odd_none, odd_more}
 use Rattle.evaluation.proofs.Writing.{row_points}
-use borrow.Author.Rules.{rules}
 use Rattle.evaluation.proofs.rows.odd_of.Goals as goal
 
 pub loop-e-init : goal.loop-e-init

@@ -1,8 +1,7 @@
 -- `evaluation::rows::odd_rows` meets its contract. The rows are read as they were, since they point below what is written.
-use Prim.Native.Nat.{◌-◌}
 use native.Mathlib.Omega.{arith}
 use Rattle.evaluation.proofs.Making.{made_odd}
-use Rattle.evaluation.proofs.Writing.{Written, written_none, written_row, written_more, written_all}
+use Rattle.evaluation.proofs.Writing.{written_none, written_row, written_more, written_all}
 use Rattle.evaluation.proofs.rows.odd_rows.Goals as goal
 
 pub loop-k-init : goal.loop-k-init

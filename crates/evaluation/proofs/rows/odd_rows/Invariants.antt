@@ -1,8 +1,6 @@
 -- `evaluation::rows::odd_rows` meets its contract. The rows are read as they were, since they point below what is written.
 use Prim.Native.Nat.{◌-◌}
-use native.Mathlib.Omega.{arith}
-use Rattle.evaluation.proofs.Making.{made_odd}
-use Rattle.evaluation.proofs.Writing.{Written, written_none, written_row, written_more, written_all}
+use Rattle.evaluation.proofs.Writing.{Written}
 use Rattle.evaluation.proofs.rows.odd_rows.Given as goal
 
 abbrev pub invariant-loop-k : goal.invariant-loop-k

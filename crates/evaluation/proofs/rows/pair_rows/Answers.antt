@@ -1,11 +1,9 @@
 -- `evaluation::rows::pair_rows` meets its contract. The rows are read as they were, since they point below what is written.
-use Prim.Native.Nat.{◌-◌}
 use mathlib.Core.Path.{ap, ◌∙◌}
-use mathlib.Core.List.{[], ◌∷◌}
 use native.Mathlib.Omega.{arith}
 use native.Mathlib.Nat.{add-zero}
 use Rattle.evaluation.specs.Steps.{gate_word}
-use Rattle.evaluation.proofs.Writing.{Written, written_none, written_row, written_more, written_all, row_points, pair_sources}
+use Rattle.evaluation.proofs.Writing.{written_none, written_row, written_more, written_all, row_points, pair_sources}
 use Rattle.evaluation.proofs.rows.pair_rows.Goals as goal
 
 pub loop-k-init : goal.loop-k-init

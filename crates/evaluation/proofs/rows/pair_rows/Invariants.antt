@@ -1,11 +1,7 @@
 -- `evaluation::rows::pair_rows` meets its contract. The rows are read as they were, since they point below what is written.
 use Prim.Native.Nat.{◌-◌}
-use mathlib.Core.Path.{ap, ◌∙◌}
 use mathlib.Core.List.{[], ◌∷◌}
-use native.Mathlib.Omega.{arith}
-use native.Mathlib.Nat.{add-zero}
-use Rattle.evaluation.specs.Steps.{gate_word}
-use Rattle.evaluation.proofs.Writing.{Written, written_none, written_row, written_more, written_all, row_points, pair_sources}
+use Rattle.evaluation.proofs.Writing.{Written}
 use Rattle.evaluation.proofs.rows.pair_rows.Given as goal
 
 abbrev pub invariant-loop-k : goal.invariant-loop-k

@@ -1,5 +1,4 @@
 -- `evaluation::rows::rule_of` meets its contract. Each part by its table.
-use borrow.Author.Rules.{rules}
 use Rattle.evaluation.proofs.rows.rule_of.Goals as goal
 
 pub returns : goal.returns

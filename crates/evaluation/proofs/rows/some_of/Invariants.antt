@@ -1,14 +1,6 @@
 -- `evaluation::rows::some_of` meets its contract. After e entries the word has the lanes in which one of these is 1.
 use Prim.Native.Nat.{◌-◌, ◌≤◌}
-use mathlib.Core.Path.{◌≡◌}
-use native.Mathlib.Omega.{arith}
-use native.Mathlib.Numerals.{add-one}
-use Rattle.lists.specs.Tables.{tabulate_from}
-use Rattle.lists.proofs.Tabled.{tabulate_snoc}
 use Rattle.evaluation.specs.Steps.{SomeOf, sources}
-use Rattle.evaluation.proofs.Making.{some_none, some_more}
-use Rattle.evaluation.proofs.Writing.{row_points}
-use borrow.Author.Rules.{rules}
 use Rattle.evaluation.proofs.rows.some_of.Given as goal
 
 abbrev pub invariant-loop-e : goal.invariant-loop-e

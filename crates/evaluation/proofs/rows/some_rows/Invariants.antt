@@ -1,9 +1,6 @@
 -- `evaluation::rows::some_rows` meets its contract. The rows are read as they were, since they point below what is written.
 use Prim.Native.Nat.{◌-◌}
-use native.Mathlib.Omega.{arith}
-use Rattle.lists.proofs.Tabled.{from_length}
-use Rattle.evaluation.proofs.Making.{made_some}
-use Rattle.evaluation.proofs.Writing.{Written, written_none, written_row, written_more, written_all}
+use Rattle.evaluation.proofs.Writing.{Written}
 use Rattle.evaluation.proofs.rows.some_rows.Given as goal
 
 abbrev pub invariant-loop-k : goal.invariant-loop-k

@@ -4,7 +4,6 @@ use native.Mathlib.Omega.{arith}
 use Rattle.method.proofs.Rising.{Starts, test_starts}
 use Rattle.method.proofs.Lasting.{last_within}
 use Rattle.framing.proofs.Indexing.{next_begun, next_later}
-use borrow.Author.Rules.{rules}
 use Rattle.framing.proofs.indices.begun_by.Goals as goal
 
 pub behind-next-requires : goal.behind-next-requires

@@ -1,18 +1,11 @@
 -- `index_column` meets its contract: the indices from frame k on are still to be stored; the fan-in's frame at the time of
 -- frame k is the one begun last, or the next.
 use Prim.Native.Nat.{◌+◌, ◌-◌, ◌*◌, ◌≤◌, ◌<◌}
-use mathlib.Core.Path.{◌≡◌, refl}
+use mathlib.Core.Path.{◌≡◌}
 use mathlib.Core.List.{map}
-use native.Mathlib.Omega.{arith}
-use native.Mathlib.Nat.{add-zero, zero-mul}
-use lib.ListN.{length, get_or, drop, length-set}
+use lib.ListN.{length, get_or, drop}
 use Rattle.method.specs.Indices.{last_frame, fanin_index}
-use Rattle.method.proofs.Rising.{Starts, test_starts}
-use Rattle.method.proofs.Lasting.{last_within}
 use Rattle.framing.specs.Steps.{column}
-use Rattle.framing.proofs.Indexing.{index_at, walk_start, walk_low, walk_high}
-use Rattle.framing.proofs.Columns.{column_on, column_end, place_in, place_on}
-use borrow.Author.Rules.{rules}
 use Rattle.framing.proofs.indices.index_column.Given as goal
 
 abbrev pub invariant-loop-k : goal.invariant-loop-k

@@ -1,16 +1,12 @@
 -- `index_columns` meets its contract: the columns of the fan-ins from e on are still to be stored, and all columns are all rows.
 use Prim.Native.Nat.{◌+◌, ◌-◌}
-use mathlib.Core.Path.{◌≡◌, refl}
+use mathlib.Core.Path.{◌≡◌}
 use mathlib.Core.List.{flat_map}
 use lib.ListN.{length, drop}
 use lib.Seq.{sets}
-use native.Mathlib.Omega.{arith}
 use Rattle.method.specs.Frames.{fanin_row}
 use Rattle.gathering.specs.Steps.{spans}
-use Rattle.gathering.proofs.Spans.{spans_length, spans_end, next_at, fanin_there, fanin_span}
-use Rattle.framing.proofs.Indexing.{shown_at}
-use Rattle.framing.proofs.Columns.{columns, columns_all, columns_on, columns_end}
-use borrow.Author.Rules.{rules}
+use Rattle.framing.proofs.Columns.{columns}
 use Rattle.framing.proofs.indices.index_columns.Given as goal
 
 abbrev pub invariant-loop-e : goal.invariant-loop-e

@@ -1,18 +1,12 @@
 -- `index_pairs` meets its contract: the rows from frame k on are still to be stored; the frame of each fan-in at the time of frame k is
 -- the one begun last, or the next.
 use Prim.Native.Nat.{◌+◌, ◌-◌, ◌*◌, ◌≤◌, ◌<◌}
-use mathlib.Core.Path.{◌≡◌, refl}
+use mathlib.Core.Path.{◌≡◌}
 use mathlib.Core.List.{[], ◌∷◌, flat_map}
-use native.Mathlib.Omega.{arith}
-use lib.ListN.{length, get_or, drop, length-set}
+use lib.ListN.{length, get_or, drop}
 use lib.Seq.{sets}
 use Rattle.method.specs.Indices.{last_frame}
 use Rattle.method.specs.Frames.{fanin_row}
-use Rattle.method.proofs.Rising.{Starts, test_starts}
-use Rattle.method.proofs.Lasting.{last_within}
-use Rattle.framing.proofs.Indexing.{index_at, walk_start, walk_low, walk_high}
-use Rattle.framing.proofs.Columns.{pairs_on, pairs_end}
-use borrow.Author.Rules.{rules}
 use Rattle.framing.proofs.indices.index_pairs.Given as goal
 
 abbrev pub invariant-loop-k : goal.invariant-loop-k

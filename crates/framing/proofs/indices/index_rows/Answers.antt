@@ -2,7 +2,6 @@
 use native.Mathlib.Omega.{arith}
 use Rattle.gathering.proofs.Spans.{two_spans, fanin_there, fanin_span}
 use Rattle.framing.proofs.Indexing.{shown_at}
-use borrow.Author.Rules.{rules}
 use Rattle.framing.proofs.indices.index_rows.Goals as goal
 
 pub fanin_at-requires : goal.fanin_at-requires

@@ -1,14 +1,11 @@
 -- `inertial_row` meets its contract: the indices from frame k on are still to be stored; the search for the end of what is
 -- within reach of frame k stands between that frame and the end.
-use Prim.Native.Nat.{◌+◌, ◌-◌, ◌≤◌, ◌<◌}
+use Prim.Native.Nat.{◌+◌, ◌≤◌}
 use native.Mathlib.Omega.{arith}
-use lib.ListN.{length, get_or, drop}
-use Rattle.lists.specs.Front.{leading}
-use Rattle.lists.proofs.Storing.{Left, none, more, all}
-use Rattle.method.specs.Indices.{inertial_indices}
+use lib.ListN.{length}
+use Rattle.lists.proofs.Storing.{none, more, all}
 use Rattle.method.proofs.Planned.{inertial_length}
 use Rattle.framing.proofs.Indexing.{end_behind, end_within, end_index, end_next}
-use borrow.Author.Rules.{rules}
 use Rattle.framing.proofs.indices.inertial_row.Goals as goal
 
 pub loop-k-init : goal.loop-k-init

@@ -1,5 +1,4 @@
 -- `add_gate` meets its contract: its times are those of the next net; they are stored unless they are too many.
-use Rattle.editions.specs.declared.GateRecord.{GateRecord}
 use Rattle.circuit.specs.Task.{task_of}
 use Rattle.method.specs.Areas.{areas}
 use Rattle.layout.proofs.Stepping.{Step, step, reached_now, reached_many}

@@ -1,15 +1,12 @@
 -- `add_gates` meets its contract: j gates are planned; once the gates so far have too many frames, so has the whole circuit.
-use Prim.Native.Nat.{◌+◌, ◌-◌, ◌≤◌}
+use Prim.Native.Nat.{◌+◌}
 use mathlib.Core.Path.{◌≡◌, refl}
 use native.Mathlib.Omega.{arith}
-use lib.ListN.{length}
 use Rattle.circuit.specs.File.{circuit_of}
 use Rattle.circuit.specs.Task.{task_of, moments_in}
 use Rattle.circuit.proofs.Parts.{gates_length, few}
-use Rattle.method.specs.Areas.{areas}
-use Rattle.layout.specs.Steps.{Going}
 use Rattle.method.proofs.Fitting.{gave_up}
-use Rattle.layout.proofs.Stepping.{Alike, given_alike, reached_now, reached_many}
+use Rattle.layout.proofs.Stepping.{given_alike, reached_now, reached_many}
 use borrow.Author.Rules.{rules}
 use Rattle.layout.proofs.gates.add_gates.Goals as goal
 

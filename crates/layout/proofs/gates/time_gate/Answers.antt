@@ -1,7 +1,6 @@
 -- `time_gate` meets its contract: the times are counted against both limits in turn.
 use native.Mathlib.Omega.{arith}
 use Rattle.layout.proofs.Stepping.{counted_over, counted_kept}
-use borrow.Author.Rules.{rules}
 use Rattle.layout.proofs.gates.time_gate.Goals as goal
 
 pub returns-then-count-gt-MOST_NET_FRAMES : goal.returns-then-count-gt-MOST_NET_FRAMES

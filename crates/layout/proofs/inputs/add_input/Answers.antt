@@ -4,7 +4,6 @@ use native.Mathlib.Omega.{arith}
 use lib.ListN.{get_or, length-set}
 use Rattle.method.specs.Changes.{schedule}
 use Rattle.layout.proofs.Starting.{Next, next, stored}
-use borrow.Author.Rules.{rules}
 use Rattle.layout.proofs.inputs.add_input.Goals as goal
 
 pub overflow_cast-count : goal.overflow_cast-count

@@ -1,12 +1,8 @@
 -- `add_inputs` meets its contract: n inputs are planned.
-use Prim.Native.Nat.{◌-◌, ◌≤◌}
 use mathlib.Core.Path.{◌≡◌, refl}
 use native.Mathlib.Omega.{arith}
 use lib.ListN.{length}
-use Rattle.method.specs.Changes.{schedule, moments_from}
-use Rattle.layout.specs.Steps.{Begun}
 use Rattle.layout.proofs.Starting.{open_alike, begun_none}
-use borrow.Author.Rules.{rules}
 use Rattle.layout.proofs.inputs.add_inputs.Goals as goal
 
 pub loop-n-init : goal.loop-n-init

@@ -1,6 +1,5 @@
 -- `last_of` meets its contract: the last entry, or 0.
 use Rattle.layout.proofs.Starting.{last_none, last_some}
-use borrow.Author.Rules.{rules}
 use Rattle.layout.proofs.inputs.last_of.Goals as goal
 
 pub returns-then-changes-eq0 : goal.returns-then-changes-eq0

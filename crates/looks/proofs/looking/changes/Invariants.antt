@@ -1,14 +1,10 @@
 -- `changes` meets its contract: the loop stands at frame k, and n of the frames before it are changes.
 use Prim.Native.Nat.{◌+◌, ◌-◌, ◌≤◌, ◌<◌}
 use mathlib.Core.Path.{◌≡◌}
-use mathlib.Core.Logic.{⊎_elim}
 use mathlib.Core.List.{map}
-use native.Mathlib.Omega.{arith}
 use lib.ListN.{length, get_or, drop}
 use Rattle.method.specs.Look as look
 use Rattle.method.specs.Words as bits
-use Rattle.looks.proofs.Turns.{changes_start, changes_more, changes_same, changes_end}
-use borrow.Author.Rules.{rules}
 use Rattle.looks.proofs.looking.changes.Given as goal
 
 abbrev pub invariant-loop-k : goal.invariant-loop-k

@@ -1,7 +1,6 @@
 -- `looks::looking::last_frame` meets its contract. It is the one before the first later frame.
 use native.Mathlib.Omega.{arith}
 use Rattle.looks.proofs.Seeing.{found, found_within}
-use borrow.Author.Rules.{rules}
 use Rattle.looks.proofs.looking.last_frame.Goals as goal
 
 pub overflow_cast-result : goal.overflow_cast-result

@@ -1,6 +1,5 @@
 -- `look_fault` meets its contract: the questions are asked in turn, and each `return` is the first "no", or none.
 use Rattle.looks.proofs.Seeing.{unequal_no, empty_no, many_no, rise_no, lane_no, all_yes}
-use borrow.Author.Rules.{rules}
 use mathlib.Core.Path.{ap}
 use mathlib.Core.Bool.{not}
 use Rattle.looks.proofs.looking.look_fault.Goals as goal

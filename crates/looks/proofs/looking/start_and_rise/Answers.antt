@@ -1,11 +1,6 @@
 -- `start_and_rise` meets its contract: the loop stands at frame k, the times before it start at 0 and rise.
-use Prim.Native.Nat.{◌-◌, ◌≤◌}
-use mathlib.Core.Path.{◌≡◌}
 use native.Mathlib.Omega.{arith}
-use lib.ListN.{length, get_or, drop}
-use Rattle.method.specs.Times.{rise_above, start_and_rise}
 use Rattle.looks.proofs.Turns.{start_none, start_late, start_yes, rise_on, rise_stop, rise_end}
-use borrow.Author.Rules.{rules}
 use Rattle.looks.proofs.looking.start_and_rise.Goals as goal
 
 pub returns-then-times-eq0 : goal.returns-then-times-eq0

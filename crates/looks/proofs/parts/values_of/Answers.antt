@@ -1,6 +1,5 @@
 -- `values_of` meets its contract: it is what the net's pair names, cut off at the area's end.
 use Rattle.looks.proofs.Parting.{part_cut}
-use borrow.Author.Rules.{rules}
 use Rattle.looks.proofs.parts.values_of.Goals as goal
 
 pub returns : goal.returns

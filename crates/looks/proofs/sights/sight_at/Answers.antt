@@ -1,6 +1,5 @@
 -- `sight_at` meets its contract: level, begin and end are each what is seen of the frame.
 use Rattle.looks.proofs.Sighting.{sight_is}
-use borrow.Author.Rules.{rules}
 use Rattle.looks.proofs.sights.sight_at.Goals as goal
 
 pub returns : goal.returns

@@ -1,6 +1,5 @@
 -- `until` meets its contract: behind the last frame there is no time, behind another the next frame's is the first.
 use Rattle.looks.proofs.Sighting.{ends_never, ends_next}
-use borrow.Author.Rules.{rules}
 use Rattle.looks.proofs.sights.until.Goals as goal
 
 pub returns-then-times-k : goal.returns-then-times-k

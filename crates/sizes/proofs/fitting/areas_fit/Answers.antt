@@ -1,6 +1,5 @@
 -- `fitting::areas_fit` meets its contract: the five lengths are asked in turn.
 use Rattle.sizes.proofs.Asking.{directory_no, times_no, inertial_no, fanins_no, values_last}
-use borrow.Author.Rules.{rules}
 use Rattle.sizes.proofs.fitting.areas_fit.Goals as goal
 
 pub returns-then-directory-nets : goal.returns-then-directory-nets

@@ -1,12 +1,11 @@
 -- `fitting::own_fault` meets its contract: 11, 20, then what the count says to 13 and 22, then the areas' lengths.
 use mathlib.Core.Path.{refl}
 use native.Mathlib.Omega.{arith}
-use Rattle.method.specs.WordLists.{WordLists, word_lists, lengths_of}
-use Rattle.circuit.specs.Task.{Task, task_of}
-use Rattle.engine.specs.Areas.{Areas, areas}
+use Rattle.method.specs.WordLists.{word_lists, lengths_of}
+use Rattle.circuit.specs.Task.{task_of}
+use Rattle.engine.specs.Areas.{areas}
 use Rattle.circuit.proofs.Parts.{few}
 use Rattle.sizes.proofs.Asking.{words_no, changes_no, changes_yes, last_no_lem, fit_no, fit_yes}
-use borrow.Author.Rules.{rules}
 use mathlib.Core.Path.{ap}
 use mathlib.Core.Bool.{not}
 use Rattle.sizes.proofs.fitting.own_fault.Goals as goal

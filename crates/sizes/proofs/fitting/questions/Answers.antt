@@ -1,7 +1,7 @@
 -- `fitting::questions` meets its contract: the reader asks 1 to 9, and `own_fault` the others.
-use Rattle.method.specs.WordLists.{WordLists, word_lists, lengths_of}
-use Rattle.circuit.specs.Task.{Task, task_of}
-use Rattle.engine.specs.Areas.{Areas, areas}
+use Rattle.method.specs.WordLists.{word_lists, lengths_of}
+use Rattle.circuit.specs.Task.{task_of}
+use Rattle.engine.specs.Areas.{areas}
 use Rattle.sizes.proofs.Asking.{reader_no, reader_yes, own_no, own_yes}
 use borrow.Author.Rules.{rules}
 use Rattle.sizes.proofs.fitting.questions.Goals as goal

@@ -1,6 +1,5 @@
 -- `totals::totals_within` meets its contract: the frames are counted, and the total is held against the limit.
 use Rattle.sizes.proofs.Sizing.{many, above, within}
-use borrow.Author.Rules.{rules}
 use mathlib.Core.Path.{ap}
 use mathlib.Core.Bool.{not}
 use Rattle.sizes.proofs.totals.totals_within.Goals as goal
