@@ -1,6 +1,7 @@
 // A call's answer in numbers, as C has it: 0, with the answer's own numbers in a lent array; or the refusal's number, and the array stays
 // as it was.
 #![tactic(auto)]
+
 ghost use Rattle.std.specs.Prelude.{◌≡◌};
 ghost use Rattle.circuit.specs.Questions as reader;
 ghost use Rattle.converter.specs.Convert as converter;

@@ -1,5 +1,6 @@
 // What the wave program prints: from the bytes of its input to the bytes of its output.
 #![tactic(auto)]
+
 ghost use Rattle.std.specs.Prelude.{◌≡◌};
 ghost use Rattle.waveform.specs.Wave.{page, wave_of, on_paper};
 
