@@ -1,5 +1,6 @@
 // Mark: a circuit is run, and the run is held against a list of expectations.
 #![tactic(auto)]
+
 ghost use Rattle.std.specs.Prelude.{◌≡◌};
 ghost use Rattle.lists.specs.Outcome.{outcome};
 ghost use Rattle.method.specs.WordLists.{word_lists};
@@ -16,8 +17,11 @@ use expectations::search::first_unmet;
 pub use expectations::{Expectation, Marking};
 use method::Tick;
 
+// What `run_asked` answers where there is no "no".
+const NO_FAULT: u8 = 0;
+
 // Runs the circuit of the file as Run does, and marks the run: questions 1 to 11, then 20, 12, 13 and 22. The areas are
-// left as Run leaves them, whatever the verdict. Proved by hand, as the list is lent.
+// left as Run leaves them, whatever the verdict.
 pub fn mark<'a>(
     file: &'a [u8],
     counts: &'a [u8],
@@ -40,7 +44,7 @@ pub fn mark<'a>(
         file, counts, changes, limit, directory, times, inertial, fanins, values, before, after,
         needed,
     );
-    if fault != 0 {
+    if fault != NO_FAULT {
         return Marking::Refused(fault);
     }
     first_unmet(directory, times, values, expectations)
