@@ -17,6 +17,9 @@ use expectations::search::first_unmet;
 pub use expectations::{Expectation, Marking};
 use method::Tick;
 
+// What `run_asked` answers where there is no "no".
+const NO_FAULT: u8 = 0;
+
 // Runs the circuit of the file as Run does, and marks the run: questions 1 to 11, then 20, 12, 13 and 22. The areas are
 // left as Run leaves them, whatever the verdict.
 pub fn mark<'a>(
@@ -41,7 +44,7 @@ pub fn mark<'a>(
         file, counts, changes, limit, directory, times, inertial, fanins, values, before, after,
         needed,
     );
-    if fault != 0 {
+    if fault != NO_FAULT {
         return Marking::Refused(fault);
     }
     first_unmet(directory, times, values, expectations)

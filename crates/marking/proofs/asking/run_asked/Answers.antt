@@ -1,6 +1,5 @@
 -- `run_asked` meets its contract: each question that fails gives its number, and Run does the rest.
 use Rattle.marking.proofs.Laddered.{early_no, unsuited_no, too_few, enough, run_refused, run_accepted}
-use borrow.Author.Rules.{rules}
 use Rattle.marking.proofs.asking.run_asked.Goals as goal
 
 pub returns-in-Refused : goal.returns-in-Refused
