@@ -1,3 +1,2 @@
--- Expectations as bytes (Recorded), and what the proof by hand of `mark_first` needs of an array that is lent in part (Lent).
+-- Laws of expectations as bytes.
 pub mod Recorded
-pub mod Lent

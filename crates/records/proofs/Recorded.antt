@@ -1,13 +1,13 @@
 -- Bytes that are records, walked through one by one.
 use mathlib.Core.Path.{◌≡◌, refl, sym, ap, subst, ◌∙◌}
 use Prim.Native.Nat.{ℕ, suc, ◌+◌, ◌*◌, ◌%◌, ◌<◌, ◌≤◌}
-use mathlib.Core.Bool.{Bool, true, false, ◌&&◌}
+use mathlib.Core.Bool.{true}
 use mathlib.Core.List.{List, [], ◌∷◌, ◌++◌}
 use lib.ListN.{length, set, take}
 use lib.Seq.{take-suc-set}
 use lib.Dec.{leb, eqb}
 use native.Mathlib.Omega.{arith}
-use borrow.Author.Tests.{eq-eqb, ne_eqb, leb-true}
+use borrow.Author.Tests.{leb-true}
 use Rattle.lists.specs.Tables.{tabulate, tabulate_from}
 use Rattle.lists.proofs.Choices.{and_right}
 use Rattle.lists.proofs.Tabled.{tabulate_snoc}
@@ -16,14 +16,6 @@ use Rattle.expectations.specs.declared.Expectation.{Expectation}
 use Rattle.records.specs.Records.{record_length, most_records, time_at, record_at, record_count, first_records, records_suit}
 
 -- ---- do they suit?
-pub suits_not : (bytes : List ℕ) → (length bytes % record_length ≡ 0 → ⊥) → false ≡ records_suit bytes
-unfolding records_suit
-suits_not bytes odd = sym (ap (λ (b : Bool). b && leb (record_count bytes) most_records) (ne_eqb (length bytes % record_length) 0 odd))
-
-pub suits_by : (bytes : List ℕ) → length bytes % record_length ≡ 0 → leb (record_count bytes) most_records ≡ records_suit bytes
-unfolding records_suit
-suits_by bytes whole = sym (ap (λ (b : Bool). b && leb (record_count bytes) most_records) (eq-eqb (length bytes % record_length) 0 whole))
-
 pub suits_count : (bytes : List ℕ) → records_suit bytes ≡ true → record_count bytes ≤ most_records
 unfolding records_suit
 suits_count bytes e = leb-true (record_count bytes) most_records (and_right (eqb (length bytes % record_length) 0) (leb (record_count bytes) most_records) e)

@@ -11,7 +11,7 @@ ghost use Rattle.records.specs.Records.{most_records};
 use expectations::{Expectation, Marking};
 use method::Tick;
 
-// Mark with the first records of a list. Proved by hand, as they are lent.
+// Mark with the first records of a list.
 pub fn mark_first<'a>(
     file: &'a [u8],
     counts: &'a [u8],

@@ -1,5 +1,6 @@
 // Expectations as bytes, records of twelve, and Mark on them. An inner crate: its functions ask their caller for what they need.
 #![tactic(auto)]
+
 ghost use Rattle.std.specs.Prelude.{◌≡◌, ◌≤◌, take};
 ghost use Rattle.records.specs.Records.{most_records, time_at, record_at, first_records, records_suit};
 
@@ -14,6 +15,7 @@ pub const RECORD_LENGTH: usize = 12;
 const MOST_RECORDS: usize = 1024;
 
 // Whether the bytes are a whole number of records, and not too many.
+#[tactic(auto, unfolding(crate::specs::Records::records_suit))]
 pub fn records_suit(bytes: &[u8]) -> bool
     ensures { result ≡ records_suit bytes.now }
 {
