@@ -1,5 +1,6 @@
 // The charge call: a circuit is run, and the charge that its kept changes draw in a lane is added up.
 #![tactic(auto)]
+
 ghost use Rattle.std.specs.Prelude.{◌≡◌};
 ghost use Rattle.lists.specs.Outcome.{outcome};
 ghost use Rattle.method.specs.WordLists.{word_lists};
@@ -36,7 +37,7 @@ fn with_charge(ran: Planning, total: f64) -> Charged
 }
 
 // Runs the circuit of the file as Run does, and adds up the charge that the lane's kept changes draw, nets in order, frames in
-// order: questions 1 to 11, then 20, 16, 21, 13 and 22. The areas are left as Run leaves them. Proved by hand, as the list is lent.
+// order: questions 1 to 11, then 20, 16, 21, 13 and 22. The areas are left as Run leaves them.
 pub fn charge<'a>(
     file: &'a [u8],
     counts: &'a [u8],
