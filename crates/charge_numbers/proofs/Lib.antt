@@ -1,3 +1,2 @@
--- Laws of loads as plain numbers (Numbered), and where their array lies while it is lent (Lent).
+-- Laws of loads as plain numbers.
 pub mod Numbered
-pub mod Lent

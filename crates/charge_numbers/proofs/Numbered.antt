@@ -32,20 +32,20 @@ use Rattle.charge_numbers.specs.Steps.{room, first_loads}
 abbrev pub cases_from : List ℕ → ℕ → Bool
 cases_from cases k = all_below 2 (drop k cases)
 
-module _ (cases : List ℕ) (k : ℕ) {whole : Bool} (h : whole ≡ cases_from cases k) where
-  here : k < length cases → whole ≡ ltb (get_or cases k 0) 2 && cases_from cases (k + 1)
+module _ (cases : List ℕ) (k : ℕ) where
+  here : k < length cases → cases_from cases k ≡ ltb (get_or cases k 0) 2 && cases_from cases (k + 1)
   unfolding all_below
-  here l = h ∙ rw (add-one k, drop-cons cases k 0 l)
+  here l = rw (add-one k, drop-cons cases k 0 l)
 
-  pub cases_no : k < length cases → 1 < get_or cases k 0 → false ≡ whole
-  cases_no l n = sym (here l ∙ rw (le-ltb (get_or cases k 0) 2 (omega arith)))
+  pub cases_no : k < length cases → 1 < get_or cases k 0 → cases_from cases k ≡ false
+  cases_no l n = here l ∙ rw (le-ltb (get_or cases k 0) 2 (omega arith))
 
-  pub cases_on : k < length cases → get_or cases k 0 ≤ 1 → whole ≡ cases_from cases (k + 1)
+  pub cases_on : k < length cases → get_or cases k 0 ≤ 1 → cases_from cases k ≡ cases_from cases (k + 1)
   cases_on l y = here l ∙ rw (lt-ltb (get_or cases k 0) 2 (omega arith))
 
-  pub cases_end : length cases ≤ k → true ≡ whole
+  pub cases_end : length cases ≤ k → cases_from cases k ≡ true
   unfolding all_below
-  cases_end l = sym (h ∙ rw (drop_of_length-le cases l))
+  cases_end l = rw (drop_of_length-le cases l)
 
 -- ---- are there two charges for each?
 

@@ -10,7 +10,7 @@ ghost use Rattle.charge_numbers.specs.Steps.{room};
 use charge::{Charged, Load};
 use method::Tick;
 
-// The charge call with the first loads of a list. Proved by hand, as they are lent.
+// The charge call with the first loads of a list.
 pub(crate) fn charge_first<'a>(
     file: &'a [u8],
     counts: &'a [u8],

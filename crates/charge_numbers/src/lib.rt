@@ -1,5 +1,6 @@
 // Loads as plain numbers, a byte and two floats a net, and the charge call on them.
 #![tactic(auto)]
+
 ghost use Rattle.std.specs.Prelude.{◌≡◌, ◌≤◌, min, length};
 ghost use Rattle.lists.specs.Outcome.{outcome};
 ghost use Rattle.method.specs.WordLists.{word_lists};
@@ -34,6 +35,7 @@ pub fn numbers_suit(cases: &[u8], charges: &[f64]) -> bool
     cases_suit(cases)
 }
 
+#[tactic(auto, using(crate::proofs::Numbered::cases_no, crate::proofs::Numbered::cases_on, crate::proofs::Numbered::cases_end))]
 fn cases_suit(cases: &[u8]) -> bool
     ensures { result ≡ all_below 2 cases.now }
 {
