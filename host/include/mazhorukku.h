@@ -33,7 +33,7 @@
 
    The calls keep no state and allocate nothing: what a call answers and leaves depends on what it is handed alone. Several
    threads may call at once, as long as none writes what another uses. Of the stack, measured on x86-64, mazh_mark needs 37
-   kilobytes, mazh_size and mazh_run_fitted need 12, and the others less than 6.  */
+   kilobytes, mazh_size 15, mazh_run_fitted 12, and the others less than 6.  */
 #ifndef MAZHORUKKU_H
 #define MAZHORUKKU_H
 
