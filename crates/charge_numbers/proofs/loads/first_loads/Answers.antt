@@ -9,7 +9,8 @@ pub loop-k-init : goal.loop-k-init
 loop-k-init c = let s = c.args in (omega arith, refl, loads_none s.cases.now s.charges.now)
 
 pub loop-k-preserved : goal.loop-k-preserved
-loop-k-preserved c = let s = c.args in
+loop-k-preserved c =
+    let s = c.args in
     let l = c.loop-k in (
       omega (arith, c.loop-k-test.true),
       length-set l.list l.k _ ∙ l.invariant.1,

@@ -6,7 +6,8 @@ pub returns-in-Refused : goal.returns-in-Refused
 returns-in-Refused c = early_no _ _ _ _ _ c.questions.ensures c.in-Refused.is
 
 pub returns-then-nets-needed : goal.returns-then-nets-needed
-returns-then-nets-needed c = let f = c.questions.ensures in
+returns-then-nets-needed c =
+    let f = c.questions.ensures in
     let e = c.in-Accepted.is in
     unsuited_no _ _ _ _ _ f e (too_few _ _ _ f e c.if-nets-needed.true)
 
