@@ -1,9 +1,10 @@
 -- A call's answer as C has it: a number, and what stands in an array of numbers that the caller lent.
-use Rattle.std.specs.Prelude.{ℕ, cond, List, [], ◌∷◌}
+use Rattle.std.specs.Prelude.{ℕ, cond, List, [], ◌∷◌, Result, Ok, Err}
 use Rattle.lists.specs.Ladder.{Answer, accepted, refused}
 use Rattle.lists.specs.Outcome.{Outcome}
 use Rattle.method.specs.declared.Totals.{Totals}
-use Rattle.circuit.specs.Questions.{InputsAndGates}
+use Rattle.method.specs.declared.Refusal.{Refusal}
+use Rattle.editions.specs.declared.InputsAndGates.{InputsAndGates}
 use Rattle.looks.specs.Sight.{End, at, never, Sight}
 use Rattle.expectations.specs.Verdict.{Verdict, all_met, place}
 
@@ -29,6 +30,11 @@ numbered n a = record { answer = n; left = a }
 
 unfoldable pub outcome_in : {R S : Type 0} → (R → List ℕ) → List ℕ → Outcome R S → Numbered S
 outcome_in own array o = numbered (in_numbers own array o.answer) o.left
+
+-- what stands in the array: an answer's own numbers; after a refusal what stood there
+abbrev pub given : {A B : Type 0} → (A → B) → Result A Refusal → B → B
+given own (Ok a) array = own a
+given own (Err r) array = array
 
 -- ---- the numbers of each answer
 

@@ -3,110 +3,95 @@
 #![tactic(auto)]
 
 ghost use Rattle.std.specs.Prelude.{◌≡◌};
-ghost use Rattle.circuit.specs.Questions as reader;
-ghost use Rattle.converter.specs.Convert as converter;
-ghost use Rattle.looks.specs.Look.{seen_on_paper, counted_on_paper};
-ghost use Rattle.looks.specs.Sight.{end_on_paper};
-ghost use Rattle.limiting.specs.Planned as planning;
-ghost use Rattle.expectations.specs.Verdict as marking;
-ghost use Rattle.answers.specs.Numbers.{numbers, in_numbers, net_numbers, total_numbers, sight_numbers, end_number, one_number, verdict_numbers};
+ghost use Rattle.method.specs.Refusals.{first_of};
+ghost use Rattle.looks.specs.Sight.{sight_on_paper};
+ghost use Rattle.expectations.specs.Verdict.{verdict_on_paper};
+ghost use Rattle.answers.specs.Numbers.{given, net_numbers, total_numbers, sight_numbers, one_number, verdict_numbers};
 
-use circuit::Reading;
-use converter::Conversion;
-use expectations::Marking;
-use limiting::Planning;
-use looks::{Counted, Seen, Until};
+use circuit::InputsAndGates;
+use expectations::Unmet;
+use looks::Sight;
+use method::{Refusal, Totals};
 
-// I and G.
-pub fn give_nets(answer: Reading, nets: &mut [u32; 2]) -> u32
-    ensures { numbers result nets.new ≡ in_numbers net_numbers nets.old (reader.on_paper answer) }
+// An answer that has numbers of its own, as many as this array holds.
+pub trait InNumbers<Array> {
+    // These numbers, in order.
+    ghost own: { Self → Array };
+
+    fn in_numbers(self) -> Array
+        ensures { result ≡ own self };
+}
+
+// 0, with the answer's own numbers in the array; or the number of the first "no", and the array as it was.
+pub fn give<A: InNumbers<Array>, Array: Copy>(answer: Result<A, Refusal>, array: &mut Array) -> u32
+    ensures number { result ≡ first_of answer }
+    ensures array { array.new ≡ given A.own answer array.old }
 {
     match answer {
-        Reading::Refused(n) => n as u32,
-        Reading::Accepted { inputs, gates } => {
-            *nets = [inputs as u32, gates as u32];
+        Err(refusal) => refusal as u32,
+        Ok(own) => {
+            *array = own.in_numbers();
             0
         }
+    }
+}
+
+// I and G.
+impl InNumbers<[u32; 2]> for InputsAndGates {
+    ghost own = { net_numbers };
+
+    #[tactic(auto, unfolding(crate::specs::Numbers::net_numbers))]
+    fn in_numbers(self) -> [u32; 2] {
+        [self.inputs as u32, self.gates as u32]
     }
 }
 
 // The frames, the fan-in entries and the last potential time.
-pub fn give_totals(answer: Planning, totals: &mut [u32; 3]) -> u32
-    ensures { numbers result totals.new ≡ in_numbers total_numbers totals.old (planning.on_paper answer) }
-{
-    match answer {
-        Planning::Refused(n) => n as u32,
-        Planning::Planned(t) => {
-            let last = t.last;
-            *totals = [t.frames as u32, t.fanins as u32, last.0];
-            0
-        }
+impl InNumbers<[u32; 3]> for Totals {
+    ghost own = { total_numbers };
+
+    #[tactic(auto, unfolding(crate::specs::Numbers::total_numbers))]
+    fn in_numbers(self) -> [u32; 3] {
+        let last = self.last;
+        [self.frames as u32, self.fanins as u32, last.0]
     }
 }
 
 // The level, the frame's begin and its end; 0, at which no frame ends, where it has none.
-pub fn give_sight(answer: Seen, sight: &mut [u32; 3]) -> u32
-    ensures { numbers result sight.new ≡ in_numbers sight_numbers sight.old (seen_on_paper answer) }
-{
-    match answer {
-        Seen::Refused(n) => n as u32,
-        Seen::Level(s) => {
-            let began = s.began;
-            let until = s.until;
-            *sight = [s.level as u32, began.0, end_of(until)];
-            0
-        }
+impl InNumbers<[u32; 3]> for Sight {
+    ghost own = { λ s. sight_numbers (sight_on_paper s) };
+
+    fn in_numbers(self) -> [u32; 3] {
+        let began = self.began;
+        let end = match self.until {
+            Some(next) => next.0,
+            None => 0,
+        };
+        [self.level as u32, began.0, end]
     }
 }
 
-fn end_of(until: Until) -> u32
-    ensures { result ≡ end_number (end_on_paper until) }
-{
-    match until {
-        Until::Next(t) => t.0,
-        Until::NoEnd => 0,
-    }
-}
+// How many changes, or the length of the file written.
+impl InNumbers<[u32; 1]> for u16 {
+    ghost own = { one_number };
 
-// How many changes.
-pub fn give_changes(answer: Counted, changes: &mut [u32; 1]) -> u32
-    ensures { numbers result changes.new ≡ in_numbers one_number changes.old (counted_on_paper answer) }
-{
-    match answer {
-        Counted::Refused(n) => n as u32,
-        Counted::Changes(n) => {
-            *changes = [n as u32];
-            0
-        }
-    }
-}
-
-// The length of the file written.
-pub fn give_length(answer: Conversion, length: &mut [u32; 1]) -> u32
-    ensures { numbers result length.new ≡ in_numbers one_number length.old (converter.on_paper answer) }
-{
-    match answer {
-        Conversion::Refused(n) => n as u32,
-        Conversion::Written(n) => {
-            *length = [n as u32];
-            0
-        }
+    #[tactic(auto, unfolding(crate::specs::Numbers::one_number))]
+    fn in_numbers(self) -> [u32; 1] {
+        [self as u32]
     }
 }
 
 // 1 where all are met; else 0, with the position and the frame.
-pub fn give_verdict(answer: Marking, verdict: &mut [u64; 3]) -> u32
-    ensures { numbers result verdict.new ≡ in_numbers verdict_numbers verdict.old (marking.on_paper answer) }
-{
-    match answer {
-        Marking::Refused(n) => n as u32,
-        Marking::AllMet => {
-            *verdict = [1, 0, 0];
-            0
-        }
-        Marking::Unmet(position, frame) => {
-            *verdict = [0, position as u64, frame.0 as u64];
-            0
+impl InNumbers<[u64; 3]> for Option<Unmet> {
+    ghost own = { λ v. verdict_numbers (verdict_on_paper v) };
+
+    fn in_numbers(self) -> [u64; 3] {
+        match self {
+            None => [1, 0, 0],
+            Some(unmet) => {
+                let frame = unmet.frame;
+                [0, unmet.position as u64, frame.0 as u64]
+            }
         }
     }
 }

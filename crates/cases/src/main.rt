@@ -19,45 +19,95 @@
 // that no run made have a program of their own, parts, and so has Mark, marks.
 #![tactic(auto)]
 
-mod circuits;
 mod nets;
-mod print;
 
-use circuits::circuit_case;
-use nets::look_of;
+use nets::{Look, look_of, show_net};
 use std::io::{Eprint, Input, Print};
-use testbench::show_cut;
+use testbench::{
+    Areas, Case, Cut, end_line, read_case, read_first, show_cut, show_plan_sums, show_planning,
+    show_reading, show_semicolon, show_sums,
+};
+
+fn main(rt: HostRuntime) {
+    if show_cases(&rt).is_err() {
+        show_cut(&rt);
+    }
+}
 
 // No input has as many cases as there are turns: each takes 6 bytes or more.
-fn main(rt: HostRuntime) {
+fn show_cases(rt: &(impl Input + Print + Eprint)) -> Result<(), Cut> {
     for _ in 0..u64::MAX {
-        if !next_case(&rt) {
-            return;
-        }
+        let Some(look) = read_first(rt)? else {
+            break;
+        };
+        let case = read_case(rt)?;
+        show_case(rt, &case, look_of(look))?;
     }
+    Ok(())
 }
 
-// One case. False where the program stops.
-fn next_case(rt: &(impl Input + Print + Eprint)) -> bool {
-    let mut look = [0u8; 6];
-    let received = streams::read_input(rt, &mut look);
-    if received.failed {
-        return cut(rt);
-    }
-    let got = received.count;
-    if got == 0 {
-        return false;
-    }
-    if got < 6 {
-        return cut(rt);
-    }
-    if !circuit_case(rt, look_of(look)) {
-        return cut(rt);
-    }
-    true
+// The calls, each in areas of its own.
+fn show_case(rt: &(impl Print + Eprint), case: &Case, look: Look) -> Result<(), Cut> {
+    show_reading(rt, circuit::read(case.file()));
+    show_semicolon(rt);
+    show_plan(rt, case);
+    show_semicolon(rt);
+    show_questions(rt, case);
+    show_semicolon(rt);
+    show_run(rt, case, look);
+    end_line(rt)
 }
 
-fn cut(rt: &(impl Print + Eprint)) -> bool {
-    show_cut(rt);
-    false
+// Plan is not lent the values.
+fn show_plan(rt: &(impl Print + Eprint), case: &Case) {
+    let head = case.head;
+    let mut areas = Areas::rubbish(head.rubbish());
+    let answer = planner::plan(
+        case.task(),
+        head.limit(),
+        &mut areas.directory[..head.directory_length()],
+        &mut areas.times[..head.times_length()],
+        &mut areas.inertial[..head.inertial_length()],
+        &mut areas.fanins[..head.fanins_length()],
+    );
+    show_planning(rt, answer);
+    show_plan_sums(rt, head, &areas);
+}
+
+// The questions are lent the areas to be read only, so that there is nothing left to be seen in them.
+fn show_questions(rt: &(impl Print + Eprint), case: &Case) {
+    let head = case.head;
+    let areas = Areas::zeros();
+    let answer = engine::questions(
+        case.task(),
+        &areas.directory[..head.directory_length()],
+        &areas.times[..head.times_length()],
+        &areas.inertial[..head.inertial_length()],
+        &areas.fanins[..head.fanins_length()],
+        &areas.values[..head.values_length()],
+        case.words(),
+    );
+    show_reading(rt, answer);
+}
+
+// What Run answers, the sums of what it left, and where there was a run what is seen of the net.
+fn show_run(rt: &(impl Print + Eprint), case: &Case, look: Look) {
+    let head = case.head;
+    let mut areas = Areas::rubbish(head.rubbish());
+    let answer = engine::run(
+        case.task(),
+        head.limit(),
+        &mut areas.directory[..head.directory_length()],
+        &mut areas.times[..head.times_length()],
+        &mut areas.inertial[..head.inertial_length()],
+        &mut areas.fanins[..head.fanins_length()],
+        &mut areas.values[..head.values_length()],
+        case.words(),
+    );
+    show_planning(rt, answer);
+    show_sums(rt, head, &areas);
+    if answer.is_ok() {
+        show_semicolon(rt);
+        show_net(rt, head, &areas, look);
+    }
 }

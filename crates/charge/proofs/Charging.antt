@@ -21,8 +21,6 @@ use Rattle.method.specs.Words.{lanes, lane}
 use Rattle.method.specs.WordLists.{WordLists, Lengths, lengths_of}
 use Rattle.method.proofs.Lanes.{in_lanes}
 use Rattle.circuit.specs.Task.{Task, circuit_in, moments_in, nets_in, frames_in, lane_values}
-use Rattle.limiting.specs.declared.Planning.{Planning}
-use Rattle.limiting.specs.Planned as planned
 use Rattle.engine.specs.Areas.{Areas, all_cleared}
 use Rattle.engine.specs.Questions.{first_questions}
 use Rattle.engine.specs.Questions as engine
@@ -37,9 +35,8 @@ use Rattle.charge_loads.specs.Charges.{added, drawn_by_nets}
 use Rattle.charge_loads.specs.Steps.{nets_loaded, net_part, parts_in}
 use Rattle.charge_loads.proofs.Listed.{suits_by_count}
 use Rattle.charge_loads.proofs.Counted.{charges_ext}
-use Rattle.charge.specs.declared.Charged.{Charged}
 use Rattle.charge.specs.Questions.{asked_with, questions}
-use Rattle.charge.specs.Charge.{Charge, drawn_in, charge_of, on_paper}
+use Rattle.charge.specs.Charge.{Charge, drawn_in, charge_of}
 use Rattle.charge.specs.Steps.{ran_of, charging}
 use Rattle.charge.proofs.Laddered.{ladder_early, ladder_yes}
 
@@ -75,43 +72,42 @@ module _ (task : Task) (w : WordLists) (b : Areas) (ran : After task w b) (L : �
   unfolding drawn_by_nets drawn_in
   total_is loads e = ap (λ (qs : List Float). added qs nought) (charges_ext (parts_in b.plan.directory b.values L) (lane_values task w L) 0 loads (λ k x y. levels_are k (omega (arith, e))))
 
--- ---- what `charge` answers: the list suits `loaded` nets, `run_asked` answers r and leaves b, the sum over the areas is `total`, and the
--- answer is x
+-- ---- what `charge` answers: the list suits `loaded` nets, `run_asked` answers x and leaves b, and the sum over the areas is `total`
 
 module _ (task : Task) (limit : ℕ) (w : WordLists) (a b : Areas) (loads : List Load) (L : ℕ) {loaded : ℕ} (all : loaded ≡ nets_loaded loads)
-    (r : Planning) (ran : outcome (planned.on_paper r) b ≡ ran_of task limit w a (ltb L lanes) (eqb loaded (nets_in task)))
-    {total : Float} (sum : total ≡ drawn_by_nets (parts_in b.plan.directory b.values L) loads) (x : Charged) (is : on_paper x ≡ charging (planned.on_paper r) total) where
+    {x : Answer Totals} (ran : outcome x b ≡ ran_of task limit w a (ltb L lanes) (eqb loaded (nets_in task)))
+    {total : Float} (sum : total ≡ drawn_by_nets (parts_in b.plan.directory b.values L) loads) where
   abbrev no : ℕ
   no = first_no (questions task limit (lengths_of w) a loads L)
 
   abbrev drawn : Charge
   drawn = record { totals = totals_of (frames_in task); charge = drawn_in task w L loads }
 
-  ran_is : outcome (planned.on_paper r) b ≡ outcome (unless no (totals_of (frames_in task))) (run_left no task w a)
+  ran_is : outcome x b ≡ outcome (unless no (totals_of (frames_in task))) (run_left no task w a)
   unfolding ran_of
   ran_is = ran ∙ ap (λ (m : ℕ). outcome (unless m (totals_of (frames_in task))) (run_left m task w a)) (ap (λ (m : ℕ). first_no (asked_with task limit (lengths_of w) a (ltb L lanes) (eqb m (nets_in task)))) all ∙ same_ladder task limit (lengths_of w) a loads L)
 
-  answer_is : planned.on_paper r ≡ unless no (totals_of (frames_in task))
+  answer_is : x ≡ unless no (totals_of (frames_in task))
   answer_is = ap (λ (o : Outcome Totals Areas). o.answer) ran_is
 
   left_is : b ≡ run_left no task w a
   left_is = ap (λ (o : Outcome Totals Areas). o.left) ran_is
 
-  goes : (n : ℕ) → no ≡ n → on_paper x ≡ unless no drawn
+  goes : (n : ℕ) → no ≡ n → charging x total ≡ unless no drawn
   unfolding charging
   goes zero e =
       let yes = ladder_yes task limit (lengths_of w) a _ _ e in
       let here : b ≡ filled task w a = left_is ∙ ap (λ (m : ℕ). run_left m task w a) e ∙ left_none (filled task w a) (all_cleared a) a in
       let after = after_runs.after_run task w b (ran_filled task limit w a yes.2 here) in
       let few = few_nets task (lengths_of w) a (parts task limit (lengths_of w) a yes.2).0 in
-      is ∙ ap (λ (o : Answer Totals). charging o total) (answer_is ∙ unless_none no (totals_of (frames_in task)) e)
+      ap (λ (o : Answer Totals). charging o total) (answer_is ∙ unless_none no (totals_of (frames_in task)) e)
       ∙ ap (λ (q : Float). accepted (record { totals = totals_of (frames_in task); charge = q })) (sum ∙ total_is task w b after L (ltb-true L lanes yes.0) few loads (loads_each (nets_in task) loads yes.1))
       ∙ sym (unless_none no drawn e)
   goes (suc n) e =
       let some : no ≡ 0 → ⊥ = λ z. omega (arith, e) in
-      is ∙ ap (λ (o : Answer Totals). charging o total) (answer_is ∙ unless_some no (totals_of (frames_in task)) some) ∙ sym (unless_some no drawn some)
+      ap (λ (o : Answer Totals). charging o total) (answer_is ∙ unless_some no (totals_of (frames_in task)) some) ∙ sym (unless_some no drawn some)
 
-  pub charge_is : outcome (on_paper x) b ≡ charge_of task limit w a loads L
+  pub charge_is : outcome (charging x total) b ≡ charge_of task limit w a loads L
   unfolding charge_of
   charge_is = ap₂ outcome (goes no refl) left_is
 

@@ -7,19 +7,15 @@ use mathlib.Core.List.{List, ◌∷◌}
 use native.Mathlib.Omega.{arith}
 use lib.Dec.{eqb, ltb}
 use borrow.Author.Tests.{eq-eqb, ne_eqb, lt-ltb, le-ltb}
-use Rattle.lists.specs.Ladder.{Question, ◌or_else◌, first_no, unless}
+use Rattle.lists.specs.Ladder.{Question, ◌or_else◌, first_no, unless, refused, accepted}
 use Rattle.lists.specs.Outcome.{outcome}
 use Rattle.lists.proofs.Ladders.{is_number, numbered, each_append, first, first_here, first_none, first_no_append, first_no_behind, asked, ask_yes, ask_no, unless_some}
 use Rattle.lists.proofs.Leaving.{left_other, left_quiet}
 use Rattle.method.specs.Words.{lanes}
 use Rattle.method.specs.WordLists.{WordLists, Lengths, lengths_of}
-use Rattle.editions.specs.declared.Reading.{Reading}
-use Rattle.editions.specs.declared.Reading.TheVariants as R
 use Rattle.circuit.specs.Questions as reader
 use Rattle.circuit.specs.Task.{Task, nets_in, frames_in}
-use Rattle.limiting.specs.declared.Planning.TheVariants as Q
 use Rattle.method.specs.Sums.{totals_of}
-use Rattle.limiting.specs.Planned.{on_paper}
 use Rattle.limiting.specs.Questions.{last_questions}
 use Rattle.engine.specs.Areas.{Areas}
 use Rattle.engine.specs.Questions.{first_questions, questions_of, questions}
@@ -28,6 +24,7 @@ use Rattle.engine.proofs.Asking.{asked_no, asked_none, asked_nets}
 use Rattle.engine.proofs.Answering.{first_quiet, first_numbered}
 use Rattle.charge.specs.Questions.{asked_with}
 use Rattle.charge.specs.Steps.{ran_of}
+use Rattle.editions.specs.declared.InputsAndGates.{InputsAndGates}
 
 module _ (task : Task) (limit : ℕ) (l : Lengths) (a : Areas) (below suit : Bool) where
   abbrev last : List Question
@@ -71,24 +68,22 @@ module _ (task : Task) (limit : ℕ) (w : WordLists) (a : Areas) (below suit : B
   answers e = rw e
 
   -- all but 13 and 22 write nothing
-  unwritten : {n : ℕ} → first_no (asked_with task limit (lengths_of w) a below suit) ≡ n → (n ≡ 0 → ⊥) → run_left n task w a ≡ a → outcome (on_paper (Q.Refused n)) a ≡ ran_of task limit w a below suit
-  unfolding on_paper
+  unwritten : {n : ℕ} → first_no (asked_with task limit (lengths_of w) a below suit) ≡ n → (n ≡ 0 → ⊥) → run_left n task w a ≡ a → outcome (refused n) a ≡ ran_of task limit w a below suit
   unwritten {n} e z l = sym (answers e ∙ ap₂ outcome (unless_some n (totals_of (frames_in task)) z) l)
 
   -- what `questions` answered
-  module _ {r : Reading} (f : reader.on_paper r ≡ questions_of task (lengths_of w) a) where
-    pub early_no : {n : ℕ} → r ≡ R.Refused n → outcome (on_paper (Q.Refused n)) a ≡ ran_of task limit w a below suit
-    early_no {n} e =
-        let q = asked_no task (lengths_of w) a f e in
-        unwritten (ladder_early task limit (lengths_of w) a below suit (λ z. q.1 (q.0 ∙ z)) ∙ sym q.0) q.1
-        (left_quiet _ _ a (first_questions task (lengths_of w) a) (first_quiet task (lengths_of w) a) q.0 q.1)
+  pub early_no : {n : ℕ} → refused n ≡ questions_of task (lengths_of w) a → outcome (refused n) a ≡ ran_of task limit w a below suit
+  early_no {n} e =
+      let q = asked_no task (lengths_of w) a e in
+      unwritten (ladder_early task limit (lengths_of w) a below suit (λ z. q.1 (q.0 ∙ z)) ∙ sym q.0) q.1
+      (left_quiet _ _ a (first_questions task (lengths_of w) a) (first_quiet task (lengths_of w) a) q.0 q.1)
 
-    module _ {inputs gates : ℕ} (e : r ≡ R.Accepted inputs gates) where
-      pub lane_no : below ≡ false → outcome (on_paper (Q.Refused 16)) a ≡ ran_of task limit w a below suit
-      lane_no n = unwritten (ladder_16 task limit (lengths_of w) a below suit (asked_none task (lengths_of w) a f e) n) (λ q. omega arith) (left_other _ _ a 16 (λ q. omega arith) refl)
+  module _ {s : InputsAndGates} (e : accepted s ≡ questions_of task (lengths_of w) a) where
+    pub lane_no : below ≡ false → outcome (refused 16) a ≡ ran_of task limit w a below suit
+    lane_no n = unwritten (ladder_16 task limit (lengths_of w) a below suit (asked_none task (lengths_of w) a e) n) (λ q. omega arith) (left_other _ _ a 16 (λ q. omega arith) refl)
 
-      pub loads_no : below ≡ true → suit ≡ false → outcome (on_paper (Q.Refused 21)) a ≡ ran_of task limit w a below suit
-      loads_no y n = unwritten (ladder_21 task limit (lengths_of w) a below suit (asked_none task (lengths_of w) a f e) y n) (λ q. omega arith) (left_other _ _ a 21 (λ q. omega arith) refl)
+    pub loads_no : below ≡ true → suit ≡ false → outcome (refused 21) a ≡ ran_of task limit w a below suit
+    loads_no y n = unwritten (ladder_21 task limit (lengths_of w) a below suit (asked_none task (lengths_of w) a e) y n) (λ q. omega arith) (left_other _ _ a 21 (λ q. omega arith) refl)
 
   pub run_asks : below ≡ true → suit ≡ true → run_of task limit w a ≡ ran_of task limit w a below suit
   unfolding run_of
@@ -102,9 +97,9 @@ lane_high L h = le-ltb L 64 (omega arith)
 pub lane_low : (L : ℕ) → L ≤ 63 → ltb L lanes ≡ true
 lane_low L h = lt-ltb L 64 (omega arith)
 
-module _ (task : Task) (l : Lengths) (a : Areas) {r : Reading} (f : reader.on_paper r ≡ questions_of task l a) {inputs gates : ℕ} (e : r ≡ R.Accepted inputs gates) where
-  pub other_count : {loaded : ℕ} → (inputs + gates ≡ loaded → ⊥) → eqb loaded (nets_in task) ≡ false
-  other_count {loaded} h = rw (asked_nets task l a f e) (ne_eqb loaded (inputs + gates) (λ q. h (sym q)))
+module _ (task : Task) (l : Lengths) (a : Areas) {s : InputsAndGates} (e : accepted s ≡ questions_of task l a) where
+  pub other_count : {loaded : ℕ} → (s.inputs + s.gates ≡ loaded → ⊥) → eqb loaded (nets_in task) ≡ false
+  other_count {loaded} h = rw (asked_nets task l a e) (ne_eqb loaded (s.inputs + s.gates) (λ q. h (sym q)))
 
-  pub same_count : {loaded : ℕ} → inputs + gates ≡ loaded → eqb loaded (nets_in task) ≡ true
-  same_count {loaded} h = rw (asked_nets task l a f e) (eq-eqb loaded (inputs + gates) (sym h))
+  pub same_count : {loaded : ℕ} → s.inputs + s.gates ≡ loaded → eqb loaded (nets_in task) ≡ true
+  same_count {loaded} h = rw (asked_nets task l a e) (eq-eqb loaded (s.inputs + s.gates) (sym h))

@@ -1,5 +1,5 @@
 -- What the charge call answers, and what it leaves in the areas.
-use Rattle.std.specs.Prelude.{ℕ, List, Float}
+use Rattle.std.specs.Prelude.{ℕ, List, Float, Result, Ok, Err}
 use Rattle.lists.specs.Ladder.{Answer, accepted, refused, first_no, unless}
 use Rattle.lists.specs.Outcome.{Outcome, outcome}
 use Rattle.method.specs.declared.Totals.{Totals}
@@ -10,8 +10,9 @@ use Rattle.engine.specs.Areas.{Areas}
 use Rattle.engine.specs.Run.{run_left}
 use Rattle.charge_loads.specs.declared.Load.{Load}
 use Rattle.charge_loads.specs.Charges.{drawn_by_nets}
-use Rattle.charge.specs.declared.Charged.{Charged}
-use Rattle.charge.specs.declared.Charged.TheVariants as C
+use Rattle.method.specs.declared.Refusal.{Refusal}
+use Rattle.method.specs.Refusals.{number_of}
+use Rattle.charge.specs.declared.Drawn.{Drawn}
 use Rattle.charge.specs.Questions.{questions}
 
 -- Run's totals, and the charge
@@ -30,7 +31,7 @@ charge_of task limit w a loads L =
     let n : ℕ = first_no (questions task limit (lengths_of w) a loads L) in
     outcome (unless n (record { totals = totals_of (frames_in task); charge = drawn_in task w L loads })) (run_left n task w a)
 
--- a `Charged` in the paper's terms: Run's totals and the charge, or the number alone
-unfoldable pub on_paper : Charged → Answer Charge
-on_paper (C.Drawn t q) = accepted (record { totals = t; charge = q })
-on_paper (C.Refused n) = refused n
+-- the call's result in the paper's terms: Run's totals and the charge, or the number alone
+unfoldable pub on_paper : Result Drawn Refusal → Answer Charge
+on_paper (Ok d) = accepted (record { totals = d.totals; charge = d.charge })
+on_paper (Err r) = refused (number_of r)

@@ -6,8 +6,10 @@ use mathlib.Core.Path.{◌≡◌, refl, sym, ap, ◌∙◌}
 use mathlib.Core.Logic.{inl, inr}
 use mathlib.Core.Bool.{Bool, true, false, beq}
 use mathlib.Core.List.{List, [], ◌∷◌, ◌++◌, map}
+use native.Mathlib.Omega.{arith}
 use native.Mathlib.Numerals.{add-one}
-use lib.ListN.{length, get_or, drop, drop_of_length-le}
+use Rattle.std.proofs.lemmas.Grind.{get_or_after_one, get_or_default_zero}
+use lib.ListN.{length, get_or, drop, drop_of_length-le, length-drop}
 use lib.Seq.{drop-cons, drop-length}
 use lib.Ieee.{Float, binary64, add, of_bits, of_int}
 use borrow.Author.Tests.{le-leb, lt-leb}
@@ -58,6 +60,17 @@ module _ (load : Load) (L : ℕ) (values : List ℕ) where
     pub frames_end : length values ≤ k → sum ≡ whole
     unfolding charges_after added
     frames_end l = sym (h ∙ rw (drop_of_length-le values l))
+
+-- frame n behind frame 0, and the end of those behind it
+module _ (values : List ℕ) (n : ℕ) where
+  pub later_more : n < length (drop 1 values) → n + 1 < length values
+  later_more h = omega (arith, h, length-drop 1 values)
+
+  pub later_at : {word : ℕ} → (n < length (drop 1 values)) × (word ≡ get_or (drop 1 values) n word) → word ≡ get_or values (n + 1) 0
+  later_at {word} t = t.1 ∙ get_or_after_one values n word ∙ rw (let q : 1 + n ≡ n + 1 = omega arith in q) (get_or_default_zero values (n + 1) word (later_more t.0))
+
+  pub later_end : n ≡ length (drop 1 values) → length values ≤ n + 1
+  later_end e = omega (arith, e, length-drop 1 values)
 
 -- ---- a net's part of the values
 

@@ -1,17 +1,20 @@
--- Question 21: the tests of a charge and of a load, and what a turn of the loop over a lent list knows. The number of nets that the
--- loop finds is that of a circuit exactly where the list suits the circuit.
+-- Question 21: the tests of a charge and of a load, and the loads counted. The number of nets that the
+-- fold finds is that of a circuit exactly where the list suits the circuit.
 -- Assumes nothing.
 use Prim.Native.Nat.{ℕ, suc, ◌+◌, ◌-◌, ◌≤◌, ◌<◌, min}
 use mathlib.Core.Path.{◌≡◌, refl, sym, ap, ◌∙◌}
 use mathlib.Core.Logic.{inl, inr}
-use mathlib.Core.Bool.{Bool, true, false, not, cond, ◌&&◌}
+use mathlib.Core.Bool.{Bool, true, false, not, cond, ◌&&◌, ◌||◌}
 use mathlib.Core.List.{List, [], ◌∷◌, map}
-use native.Mathlib.Numerals.{add-one}
 use native.Mathlib.Omega.{arith}
 use lib.Dec.{eqb}
-use lib.ListN.{length, get_or, drop}
-use lib.Seq.{drop-cons, drop-length}
-use lib.Ieee.{Float, nan, binary64, le, of_bits, of_int}
+use lib.ListN.{length}
+use lib.Ieee.{Float, nan, binary64, lt, eq, le, of_bits, of_int}
+use Rattle.std.specs.Prelude.{Some, None}
+use Rattle.std.specs.List.{fold}
+use Rattle.std.specs.declared.cmp.Ordering.TheVariants.{Less, Equal, Greater}
+use Rattle.std.specs.Ordering.{is_some_and, is_le, partial_le, float_partial_cmp}
+use Rattle.std.specs.Range.{range_inclusive_start, range_inclusive_end, range_inclusive_exhausted, range_inclusive_contains}
 use borrow.Author.Tests.{le-ltb, lt-ltb, ne_eqb, not-true, not-false}
 use Rattle.lists.specs.Tables.{every}
 use Rattle.lists.proofs.Choices.{either, order}
@@ -26,7 +29,7 @@ no_load = Any nan
 
 -- ---- a charge's range. A float literal of the code is what `of_bits` makes of its pattern
 
-nought_bits : of_bits binary64 0 ≡ nought
+pub nought_bits : of_bits binary64 0 ≡ nought
 unfolding of_bits of_int
 nought_bits = refl
 
@@ -34,14 +37,22 @@ most_bits : of_bits binary64 4652007308841189376 ≡ most_charge
 unfolding of_bits of_int
 most_bits = refl
 
-module _ (x : Float) where
-  pub not_low : le (of_bits binary64 0) x ≡ true → le x (of_bits binary64 4652007308841189376) ≡ in_range x
-  unfolding in_range
-  not_low e = let f : le nought x ≡ true = rw (← nought_bits) e in rw (f, most_bits)
+-- `<=` is what the order of floats says
+le_by_order : (x y : Float) → partial_le float_partial_cmp x y ≡ le x y
+unfolding le
+le_by_order x y = go (lt x y) (eq x y) (lt y x)
+  where
+    go : (below equal above : Bool) → is_some_and is_le (cond below (Some Less) (cond equal (Some Equal) (cond above (Some Greater) None))) ≡ below || equal
+    go true equal above = refl
+    go false true above = refl
+    go false false true = refl
+    go false false false = refl
 
-  pub too_low : le (of_bits binary64 0) x ≡ false → false ≡ in_range x
-  unfolding in_range
-  too_low e = let f : le nought x ≡ false = rw (← nought_bits) e in rw f
+-- the range from 0 to 1,000 has a charge
+pub in_range_by : (x : Float) {s : _} {r : Bool} → range_inclusive_start s ≡ of_bits binary64 0 → range_inclusive_end s ≡ of_bits binary64 4652007308841189376 → range_inclusive_exhausted s ≡ false
+    → r ≡ range_inclusive_contains float_partial_cmp s x → r ≡ in_range x
+unfolding in_range
+in_range_by x low high fresh e = e ∙ rw (low, high, fresh, nought_bits, most_bits, le_by_order nought x, le_by_order x most_charge)
 
 -- ---- a load
 
@@ -59,23 +70,15 @@ module _ {load : Load} where
     unfolding suits
     first_unfit n = rw (e, ← f, n)
 
--- ---- the loads counted: those before place i, and the rest
+-- ---- the loads counted
 
-module _ (list : List Load) where
-  abbrev pub counted_from : ℕ → ℕ → ℕ
-  counted_from nets i = loaded_from (drop i list) nets
-
-  pub counted_start : counted_from 0 0 ≡ nets_loaded list
-  unfolding nets_loaded
-  counted_start = refl
-
-  pub counted_end : (nets i : ℕ) → i ≡ length list → counted_from nets i ≡ nets
-  unfolding loaded_from
-  counted_end nets i e = ap (counted_from nets) e ∙ ap (λ (rest : List Load). loaded_from rest nets) (drop-length list)
-
-  pub counted_on : (nets i : ℕ) → i < length list → {m : ℕ} → m ≡ with_load (get_or list i no_load) nets → counted_from m (i + 1) ≡ counted_from nets i
-  unfolding loaded_from
-  counted_on nets i l e = rw (add-one i, drop-cons list i no_load l, e)
+pub counted_by_fold : (list : List Load) → fold (λ (n : ℕ) (load : Load). with_load load n) 0 list ≡ nets_loaded list
+unfolding nets_loaded loaded_from
+counted_by_fold list = from list 0
+  where
+    from : (list : List Load) (nets : ℕ) → fold (λ (n : ℕ) (load : Load). with_load load n) nets list ≡ loaded_from list nets
+    from [] nets = refl
+    from (load ∷ list) nets = from list (with_load load nets)
 
 -- one load more
 module _ (load : Load) (nets : ℕ) {r : Bool} (e : r ≡ suits load) where

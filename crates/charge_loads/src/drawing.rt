@@ -6,9 +6,10 @@ ghost use Rattle.charge_loads.specs.Steps.{drawn_at, net_part, parts_in};
 
 use crate::Load;
 use method::Net;
-use slices::word_at;
+use slices::entry_at;
 
 // The charge of a change to this level.
+#[tactic(auto, unfolding(crate::specs::Charges::change_charge))]
 fn change_charge(load: Load, level: bool) -> f64
     ensures { result ≡ change_charge load level }
 {
@@ -34,51 +35,33 @@ fn after_frames(values: &[u64], lane: u8, load: Load, total: f64) -> f64
     ensures { result ≡ added (charges load (map (bits.lane lane) values.now)) total }
 {
     let mut sum = total;
-    let mut before = words::bit_of(word_at(values, 0), lane);
-    let mut k = 1;
-    while k < values.len() {
-        let level = words::bit_of(values[k], lane);
+    let mut before = words::bit_of(entry_at(values, 0), lane);
+    for word in values.iter().skip(1) {
+        let level = words::bit_of(*word, lane);
         sum = after_frame(sum, load, before, level);
         before = level;
-        k += 1;
     }
     sum
 }
 
 // The total after net i, whose frames lie where its pair in the directory says. No circuit has a net above 65,535.
-fn after_net<'a>(
-    directory: &'a [u16],
-    values: &'a [u64],
-    i: usize,
-    lane: u8,
-    load: Load,
-    total: f64,
-) -> f64
+fn after_net(directory: &[u16], values: &[u64], i: usize, lane: u8, load: Load, total: f64) -> f64
     ensures { result ≡ added (charges load (map (bits.lane lane) (net_part directory.now values.now i))) total }
 {
-    if 65535 < i {
+    let Ok(net) = u16::try_from(i) else {
         return total;
-    }
-    let part = looks::values_of(directory, values, Net(i as u16));
+    };
+    let part = looks::values_of(directory, values, Net(net));
     after_frames(part, lane, load, total)
 }
 
 // The total of all nets, each with its load, in order.
-pub fn charge_of_nets<'a>(
-    directory: &'a [u16],
-    values: &'a [u64],
-    lane: u8,
-    loads: &'a [Load],
-) -> f64
+pub fn charge_of_nets(directory: &[u16], values: &[u64], lane: u8, loads: &[Load]) -> f64
     ensures { result ≡ drawn_by_nets (parts_in directory.now values.now lane) loads.now }
 {
-    let mut i: usize = 0;
     let mut total = 0.0;
-    loop {
-        if i == loads.len() {
-            break total;
-        }
-        total = after_net(directory, values, i, lane, loads[i], total);
-        i = i + 1;
+    for (i, load) in loads.iter().enumerate() {
+        total = after_net(directory, values, i, lane, *load, total);
     }
+    total
 }

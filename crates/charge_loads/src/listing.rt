@@ -11,14 +11,11 @@ const NO_CIRCUIT: u32 = 131072;
 const MOST_CHARGE: f64 = 1000.0;
 
 // Is the charge from 0 to 1,000? With a NaN no comparison holds.
+#[tactic(auto, using(crate::proofs::Listed::in_range_by))]
 fn in_range(charge: f64) -> bool
     ensures { result ≡ in_range charge }
 {
-    if 0.0 <= charge {
-        charge <= MOST_CHARGE
-    } else {
-        false
-    }
+    (0.0..=MOST_CHARGE).contains(&charge)
 }
 
 // Is each charge of a load in range, whether it is ever drawn or not?
@@ -45,16 +42,8 @@ fn one_more(load: Load, nets: u32) -> u32
 }
 
 // How many nets the list suits, or more than any circuit has where it suits none.
-pub fn nets_loaded<'a>(list: &'a [Load]) -> u32
+pub fn nets_loaded(list: &[Load]) -> u32
     ensures { result ≡ nets_loaded list.now }
 {
-    let mut nets: u32 = 0;
-    let mut i: usize = 0;
-    loop {
-        if i == list.len() {
-            break nets;
-        }
-        nets = one_more(list[i], nets);
-        i = i + 1;
-    }
+    list.iter().fold(0, |nets, load| one_more(*load, nets))
 }

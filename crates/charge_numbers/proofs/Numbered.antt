@@ -1,17 +1,16 @@
 -- Loads as plain numbers, walked through one by one; and that a list which is cut off behind 161 loads answers as the whole list does.
 -- Assumes nothing.
-use Prim.Native.Nat.{ℕ, zero, suc, ◌+◌, ◌*◌, ◌/◌, ◌%◌, ◌<◌, ◌≤◌, min}
-use mathlib.Core.Path.{◌≡◌, refl, sym, ap, subst, ◌∙◌}
+use Prim.Native.Nat.{ℕ, ◌+◌, ◌*◌, ◌<◌, min}
+use mathlib.Core.Path.{◌≡◌, refl, ap, ◌∙◌}
 use mathlib.Core.Logic.{inl, inr}
-use mathlib.Core.Bool.{Bool, true, false, ◌&&◌}
+use mathlib.Core.Bool.{Bool, ◌&&◌}
 use mathlib.Core.List.{List, [], ◌∷◌}
 use native.Mathlib.Omega.{arith}
-use native.Mathlib.Numerals.{add-one}
 use lib.Dec.{ltb}
-use lib.ListN.{length, get_or, set, take, drop, drop_of_length-le, get_or-eq_default}
-use lib.Seq.{drop-cons}
-use lib.Ieee.{Float, binary64, of_bits, of_int}
-use borrow.Author.Tests.{eq-eqb, ne_eqb, lt-ltb, le-ltb}
+use lib.ListN.{length, get_or, set, take}
+use lib.Ieee.{Float, binary64, of_bits}
+use borrow.Author.Tests.{eq-eqb}
+use Rattle.std.specs.List.{list_all}
 use Rattle.lists.specs.Tables.{tabulate_from, tabulate, all_below}
 use Rattle.lists.specs.Outcome.{Outcome}
 use Rattle.lists.proofs.Choices.{order}
@@ -20,71 +19,30 @@ use Rattle.method.specs.WordLists.{WordLists}
 use Rattle.circuit.specs.Task.{Task}
 use Rattle.engine.specs.Areas.{Areas}
 use Rattle.charge_loads.specs.declared.Load.{Load}
-use Rattle.charge_loads.specs.declared.Load.TheVariants.{Any, Edges}
 use Rattle.charge_loads.specs.Suits.{nought}
+use Rattle.charge_loads.proofs.Listed.{nought_bits}
 use Rattle.charge.specs.Charge.{Charge, charge_of}
 use Rattle.charge.proofs.Long.{long_same}
 use Rattle.charge_numbers.specs.Numbers.{load_at, loads_of, numbers_suit}
 use Rattle.charge_numbers.specs.Steps.{room, first_loads}
 
--- ---- does each byte say a case? From place k on
+-- ---- does each byte say a case?
 
-abbrev pub cases_from : List ℕ → ℕ → Bool
-cases_from cases k = all_below 2 (drop k cases)
+cases_by_all : (cases : List ℕ) → list_all (λ (x : ℕ). ltb x 2) cases ≡ all_below 2 cases
+unfolding all_below
+cases_by_all [] = refl
+cases_by_all (x ∷ cases) = ap (λ (b : Bool). ltb x 2 && b) (cases_by_all cases)
 
-module _ (cases : List ℕ) (k : ℕ) where
-  here : k < length cases → cases_from cases k ≡ ltb (get_or cases k 0) 2 && cases_from cases (k + 1)
-  unfolding all_below
-  here l = rw (add-one k, drop-cons cases k 0 l)
+-- where there are two charges for each, that is the whole question
+pub numbers_by_all : (cases : List ℕ) (charges : List Float) → length charges ≡ 2 * length cases → list_all (λ (x : ℕ). ltb x 2) cases ≡ numbers_suit cases charges
+unfolding numbers_suit
+numbers_by_all cases charges e = rw (eq-eqb (length charges) (2 * length cases) e) (cases_by_all cases)
 
-  pub cases_no : k < length cases → 1 < get_or cases k 0 → cases_from cases k ≡ false
-  cases_no l n = here l ∙ rw (le-ltb (get_or cases k 0) 2 (omega arith))
+-- ---- one charge
 
-  pub cases_on : k < length cases → get_or cases k 0 ≤ 1 → cases_from cases k ≡ cases_from cases (k + 1)
-  cases_on l y = here l ∙ rw (lt-ltb (get_or cases k 0) 2 (omega arith))
-
-  pub cases_end : length cases ≤ k → cases_from cases k ≡ true
-  unfolding all_below
-  cases_end l = rw (drop_of_length-le cases l)
-
--- ---- are there two charges for each?
-
-module _ (cases : List ℕ) (charges : List Float) where
-  pub odd_no : (length charges % 2 ≡ 0 → ⊥) → false ≡ numbers_suit cases charges
-  unfolding numbers_suit
-  odd_no odd = sym (ap (λ (b : Bool). b && all_below 2 cases) (ne_eqb (length charges) (2 * length cases) (λ e. odd (omega (arith, e)))))
-
-  pub half_no : length charges % 2 ≡ 0 → (length charges / 2 ≡ length cases → ⊥) → false ≡ numbers_suit cases charges
-  unfolding numbers_suit
-  half_no even other = sym (ap (λ (b : Bool). b && all_below 2 cases) (ne_eqb (length charges) (2 * length cases) (λ e. other (omega (arith, e)))))
-
-  pub half_yes : length charges % 2 ≡ 0 → length charges / 2 ≡ length cases → {r : Bool} → r ≡ all_below 2 cases → r ≡ numbers_suit cases charges
-  unfolding numbers_suit
-  half_yes even same e = e ∙ sym (ap (λ (b : Bool). b && all_below 2 cases) (eq-eqb (length charges) (2 * length cases) (omega (arith, even, same))))
-
--- ---- one load
-
-nought_bits : of_bits binary64 0 ≡ nought
-unfolding of_bits of_int
-nought_bits = refl
-
-pub past_end : (charges : List Float) (place : ℕ) → length charges ≤ place → of_bits binary64 0 ≡ get_or charges place nought
-past_end charges place l = nought_bits ∙ sym (get_or-eq_default charges nought l)
-
--- what is there is read whatever stands for what is not
-pub there : (charges : List Float) (place : ℕ) (none : Float) → place < length charges → get_or charges place none ≡ get_or charges place nought
-there [] place none l = absurd (omega (arith, l))
-there (q ∷ qs) zero none l = refl
-there (q ∷ qs) (suc place) none l = there qs place none (omega (arith, l))
-
-module _ (cases : List ℕ) (charges : List Float) (k : ℕ) {first : Float} (f : first ≡ get_or charges (2 * k) nought) {n : ℕ} (e : n ≡ get_or cases k 0) where
-  pub any_at : n ≡ 0 → Any first ≡ load_at cases charges k
-  unfolding load_at
-  any_at z = rw (← e, eq-eqb _ 0 z, f)
-
-  pub edges_at : (n ≡ 0 → ⊥) → {second : Float} → second ≡ get_or charges (2 * k + 1) nought → Edges first second ≡ load_at cases charges k
-  unfolding load_at
-  edges_at z s = rw (← e, ne_eqb _ 0 z, f, s)
+-- the literal 0 stands for what is not there
+pub read_nought : (charges : List Float) (place : ℕ) → get_or charges place (of_bits binary64 0) ≡ get_or charges place nought
+read_nought charges place = ap (get_or charges place) nought_bits
 
 -- ---- one load more
 
@@ -96,9 +54,6 @@ module _ (cases : List ℕ) (charges : List Float) where
   pub loads_more : (list : List Load) (k : ℕ) (x : Load) → k < length list → take k list ≡ first_loads cases charges k → x ≡ load_at cases charges k → take (k + 1) (set list k x) ≡ first_loads cases charges (k + 1)
   unfolding first_loads
   loads_more list k x = tabulate_set (load_at cases charges) list k x
-
-  pub loads_done : (list : List Load) {k count : ℕ} → k ≡ count → take k list ≡ first_loads cases charges k → take count list ≡ first_loads cases charges count
-  loads_done list e first = subst (λ (n : ℕ). take n list ≡ first_loads cases charges n) e first
 
 -- ---- a list that is cut off
 

@@ -6,13 +6,12 @@ use mathlib.Core.List.{List, ◌++◌}
 use native.Mathlib.Omega.{arith}
 use Rattle.lists.specs.Ladder.{Question, first_no, Answer, answer, accepted, refused, unless}
 use Rattle.lists.proofs.Ladders.{first, first_here, first_none, first_no_append, accepted_none, refused_some, unless_none, unless_some}
-use Rattle.editions.specs.declared.Reading.{Reading}
-use Rattle.editions.specs.declared.Reading.TheVariants as R
 use Rattle.editions.specs.Questions as editions
 use Rattle.circuit.specs.File.{inputs_of, gates_of}
-use Rattle.circuit.specs.Questions.{InputsAndGates, questions, read_of, inputs_and_gates_of, on_paper}
+use Rattle.editions.specs.declared.InputsAndGates.{InputsAndGates}
+use Rattle.circuit.specs.Questions.{questions, read_of, inputs_and_gates_of}
 use Rattle.circuit.proofs.Present.{questions_numbered}
-use Rattle.circuit.proofs.Parts.{reading_accepted, inputs_are, gates_are}
+use Rattle.circuit.proofs.Parts.{inputs_are, gates_are}
 
 module _ (file : List ℕ) (own : List Question) where
   joined : first_no (questions file ++ own) ≡ first (first_no (questions file)) (first_no own)
@@ -37,23 +36,19 @@ module _ (file : List ℕ) (own : List Question) where
       let q : first_no (questions file) ≡ 0 = (accepted_none (first_no (questions file)) (inputs_and_gates_of file) e).0 in
       joined ∙ rw q
 
-  -- what the reader answers
-  module _ {r : Reading} (f : on_paper r ≡ read_of file) where
-    -- the number of its refusal is the first, and its own
-    pub read_no : {n : ℕ} → r ≡ R.Refused n → (first_no (questions file ++ own) ≡ n) × (1 ≤ n) × (first_no (questions file) ≡ n)
-    unfolding on_paper editions.read_of
-    read_no {n} e =
-        let g : unless (first_no (questions file)) (inputs_and_gates_of file) ≡ refused n = sym f ∙ rw e in
-        let q = refused_some (first_no (questions file)) (inputs_and_gates_of file) g in
-        (joined ∙ rw q.0 (first_here n _ (λ z. omega (arith, q.1))), q.1, q.0)
+  -- what the reader answers: the number of its refusal is the first, and its own
+  pub read_no : {n : ℕ} → refused n ≡ read_of file → (first_no (questions file ++ own) ≡ n) × (1 ≤ n) × (first_no (questions file) ≡ n)
+  unfolding editions.read_of
+  read_no {n} e =
+      let q = refused_some (first_no (questions file)) (inputs_and_gates_of file) (sym e) in
+      (joined ∙ rw q.0 (first_here n _ (λ z. omega (arith, q.1))), q.1, q.0)
 
-    pub read_yes : {inputs gates : ℕ} → r ≡ R.Accepted inputs gates
-        → (read_of file ≡ accepted (record { inputs = inputs_of file; gates = gates_of file })) × (inputs ≡ inputs_of file) × (gates ≡ gates_of file)
-    read_yes e =
-        let a = reading_accepted file f e in
-        let i = inputs_are file a in
-        let g = gates_are file a in
-        (a ∙ rw (i, g), i, g)
+  pub read_yes : {s : InputsAndGates} → accepted s ≡ read_of file
+      → (read_of file ≡ accepted (record { inputs = inputs_of file; gates = gates_of file })) × (s.inputs ≡ inputs_of file) × (s.gates ≡ gates_of file)
+  read_yes e =
+      let i = inputs_are file (sym e) in
+      let g = gates_are file (sym e) in
+      (sym e ∙ rw (i, g), i, g)
 
 -- ---- a call's questions by themselves, answered as the reader answers: the number of the first "no", or I and G
 
@@ -61,37 +56,29 @@ module _ (file : List ℕ) (own : List Question) where
   abbrev answered : Answer InputsAndGates
   answered = answer (questions file ++ own) (inputs_and_gates_of file)
 
-  refusal : {n : ℕ} → first_no (questions file ++ own) ≡ n → (n ≡ 0 → ⊥) → on_paper (R.Refused n) ≡ answered
-  unfolding on_paper
+  refusal : {n : ℕ} → first_no (questions file ++ own) ≡ n → (n ≡ 0 → ⊥) → refused n ≡ answered
   refusal {n} e some = sym (rw e (unless_some n (inputs_and_gates_of file) some))
 
-  module _ {r : Reading} (f : on_paper r ≡ read_of file) where
-    pub reader_no : {n : ℕ} → r ≡ R.Refused n → on_paper (R.Refused n) ≡ answered
-    reader_no e = let q = read_no file own f e in refusal q.0 (λ z. omega (arith, q.1))
+  pub reader_no : {n : ℕ} → refused n ≡ read_of file → refused n ≡ answered
+  reader_no e = let q = read_no file own e in refusal q.0 (λ z. omega (arith, q.1))
 
-    module _ {inputs gates : ℕ} (e : r ≡ R.Accepted inputs gates) {n : ℕ} (is : n ≡ first_no own) where
-      own_is : first_no (questions file ++ own) ≡ n
-      own_is = own_decide file own (read_yes file own f e).0 ∙ sym is
+  module _ {s : InputsAndGates} (e : accepted s ≡ read_of file) {n : ℕ} (is : n ≡ first_no own) where
+    own_is : first_no (questions file ++ own) ≡ n
+    own_is = own_decide file own (read_yes file own e).0 ∙ sym is
 
-      pub own_no : (n ≡ 0 → ⊥) → on_paper (R.Refused n) ≡ answered
-      own_no some = refusal own_is some
+    pub own_no : (n ≡ 0 → ⊥) → refused n ≡ answered
+    own_no some = refusal own_is some
 
-      pub own_yes : n ≡ 0 → on_paper (R.Accepted inputs gates) ≡ answered
-      unfolding on_paper editions.inputs_and_gates_of
-      own_yes z = let y = read_yes file own f e in sym (unless_none _ (inputs_and_gates_of file) (own_is ∙ z) ∙ rw (← y.1, ← y.2))
+    pub own_yes : n ≡ 0 → accepted s ≡ answered
+    unfolding editions.inputs_and_gates_of
+    own_yes z = let y = read_yes file own e in sym (unless_none _ (inputs_and_gates_of file) (own_is ∙ z) ∙ rw (← y.1, ← y.2))
 
   -- what their answer says
-  module _ {r : Reading} (f : on_paper r ≡ answered) where
-    pub asked_no : {n : ℕ} → r ≡ R.Refused n → (n ≡ first_no (questions file ++ own)) × (n ≡ 0 → ⊥)
-    unfolding on_paper
-    asked_no {n} e =
-        let g : answered ≡ refused n = sym f ∙ rw e in
-        let q = refused_some (first_no (questions file ++ own)) (inputs_and_gates_of file) g in
-        (sym q.0, λ z. omega (arith, q.1))
+  pub asked_no : {n : ℕ} → refused n ≡ answered → (n ≡ first_no (questions file ++ own)) × (n ≡ 0 → ⊥)
+  asked_no {n} e = let q = refused_some (first_no (questions file ++ own)) (inputs_and_gates_of file) (sym e) in (sym q.0, λ z. omega (arith, q.1))
 
-    pub asked_yes : {inputs gates : ℕ} → r ≡ R.Accepted inputs gates → (first_no (questions file ++ own) ≡ 0) × (inputs ≡ inputs_of file) × (gates ≡ gates_of file)
-    unfolding on_paper editions.inputs_and_gates_of
-    asked_yes {inputs} {gates} e =
-        let g : answered ≡ accepted (record { inputs = inputs; gates = gates }) = sym f ∙ rw e in
-        let y = accepted_none (first_no (questions file ++ own)) (inputs_and_gates_of file) g in
-        (y.0, sym (ap (λ (s : InputsAndGates). s.inputs) y.1), sym (ap (λ (s : InputsAndGates). s.gates) y.1))
+  pub asked_yes : {s : InputsAndGates} → accepted s ≡ answered → (first_no (questions file ++ own) ≡ 0) × (s.inputs ≡ inputs_of file) × (s.gates ≡ gates_of file)
+  unfolding editions.inputs_and_gates_of
+  asked_yes e =
+      let y = accepted_none (first_no (questions file ++ own)) (inputs_and_gates_of file) (sym e) in
+      (y.0, sym (ap (λ (s : InputsAndGates). s.inputs) y.1), sym (ap (λ (s : InputsAndGates). s.gates) y.1))

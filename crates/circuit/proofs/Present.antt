@@ -8,7 +8,8 @@ use Rattle.lists.specs.Ladder.{Answer}
 use Rattle.lists.proofs.Ladders.{numbered, quiet}
 use Rattle.editions.specs.declared.Edition.{Edition}
 use Rattle.editions.specs.Edition.{present}
-use Rattle.editions.specs.Questions.{InputsAndGates, questions, read_of}
+use Rattle.editions.specs.declared.InputsAndGates.{InputsAndGates}
+use Rattle.editions.specs.Questions.{questions, read_of}
 use Rattle.editions.proofs.Gated as reader
 
 module _ (file : List ℕ) {ed : Edition} (p : ed ≡ present) where

@@ -11,6 +11,7 @@ use Rattle.method.specs.Packed.{lane_of, packed_values}
 use Rattle.method.specs.Values.{net_count, all_values}
 use Rattle.method.specs.Agreement.{potential}
 use Rattle.method.specs.WordLists.{WordLists}
+use Rattle.circuit.specs.declared.Task as code
 use Rattle.circuit.specs.File.{circuit_of}
 
 pub record Task : Type 0 where
@@ -20,6 +21,10 @@ pub record Task : Type 0 where
 -- from the file, the list of change counts and the list of times
 abbrev pub task_of : List ℕ → List ℕ → List ℕ → Task
 task_of file counts changes = record { file = file; schedule = schedule counts changes }
+
+-- from the struct that the code hands on
+abbrev pub task_in : code.Task → Task
+task_in t = task_of t.file.now t.counts.now t.changes.now
 
 -- ---- of a task alone: no word enters these
 

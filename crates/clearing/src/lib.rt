@@ -1,57 +1,21 @@
-// Lent areas set to zeros: a function for each type of their entries, and one for the four areas that hold a plan.
+// Lent areas set to zeros, whatever the type of their numbers, and the four areas that hold a plan.
 #![tactic(auto)]
 
-ghost use Rattle.std.specs.Prelude.{◌≡◌};
-ghost use Rattle.lists.specs.Areas.{cleared};
+ghost use Rattle.std.specs.Prelude.{◌≡◌, length, replicate};
 ghost use Rattle.method.specs.Areas.{areas, all_cleared};
 
+use lists::Number;
 use method::Tick;
 
 // Sets every number of the area to 0.
-pub fn clear(area: &mut [u16])
-    ensures { area.new ≡ cleared area.old }
+pub fn clear<T: Number>(area: &mut [T])
+    ensures { area.new ≡ replicate (length area.old) T.zero }
 {
-    let mut i = 0;
-    while i < area.len() {
-        area[i] = 0;
-        i += 1;
-    }
-}
-
-// The same of times.
-pub fn clear_ticks(times: &mut [Tick])
-    ensures { times.new ≡ cleared times.old }
-{
-    let mut t = 0;
-    while t < times.len() {
-        times[t] = 0;
-        t += 1;
-    }
-}
-
-// Sets every word to 0.
-pub fn clear_words(words: &mut [u64])
-    ensures { words.new ≡ cleared words.old }
-{
-    let mut w = 0;
-    while w < words.len() {
-        words[w] = 0;
-        w += 1;
-    }
-}
-
-// Sets every byte to 0.
-pub fn clear_bytes(bytes: &mut [u8])
-    ensures { bytes.new ≡ cleared bytes.old }
-{
-    let mut b = 0;
-    while b < bytes.len() {
-        bytes[b] = 0;
-        b += 1;
-    }
+    area.fill(T::from(0));
 }
 
 // Clears the areas of a plan.
+#[tactic(auto, unfolding(method::specs::Areas::all_cleared))]
 pub fn clear_plan(
     directory: &mut [u16],
     times: &mut [Tick],
@@ -61,7 +25,7 @@ pub fn clear_plan(
     ensures { areas directory.new times.new inertial.new fanins.new ≡ all_cleared (areas directory.old times.old inertial.old fanins.old) }
 {
     clear(directory);
-    clear_ticks(times);
+    clear(times);
     clear(inertial);
     clear(fanins);
 }

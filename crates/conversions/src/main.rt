@@ -11,145 +11,135 @@
 // not hold it prints `cut` and stops, and so it does where it cannot read or write on, which standard error then says.
 #![tactic(auto)]
 
-ghost use Rattle.std.specs.Prelude.{◌≡◌, ◌≤◌, length};
+ghost use Rattle.std.specs.Prelude.{◌≤◌};
 
 use converter::Conversion;
 use std::io::{Eprint, Input, Print};
 use testbench::{
-    end_line, limited, read_all, show_cut, show_number, show_refused, wide, with_number,
+    Cut, FromBytes, end_line, read_all, read_first, show_cut, show_number, show_refusal, show_text,
+    with_number,
 };
 
+#[derive(Clone, Copy)]
+enum Call {
+    Newer,
+    Older,
+    Other,
+}
+
 // File length, area length, rubbish number.
-type Head = [u8; 7];
+#[derive(Clone, Copy)]
+struct Head([u8; 7]);
+
+impl Head {
+    fn file_number(self) -> usize {
+        u32::at_byte(&self.0, 0) as usize
+    }
+
+    fn area_number(self) -> usize {
+        usize::from(numbers::number_at(&self.0, 4))
+    }
+
+    // Whether the buffers hold the case. A length that its buffer does not hold is taken for the buffer's own.
+    fn is_held(self) -> bool {
+        self.file_number() <= 70000 && self.area_number() <= 5000
+    }
+
+    fn file_length(self) -> usize
+        ensures { result ≤ 70000 }
+    {
+        self.file_number().min(70000)
+    }
+
+    fn area_length(self) -> usize
+        ensures { result ≤ 5000 }
+    {
+        self.area_number().min(5000)
+    }
+
+    fn rubbish(self) -> u8 {
+        self.0[6]
+    }
+}
+
+fn main(rt: HostRuntime) {
+    if show_cases(&rt).is_err() {
+        show_cut(&rt);
+    }
+}
 
 // No input has as many cases as there are turns.
-fn main(rt: HostRuntime) {
+fn show_cases(rt: &(impl Input + Print + Eprint)) -> Result<(), Cut> {
     for _ in 0..u64::MAX {
-        if !next_case(&rt) {
-            return;
-        }
+        let Some(first) = read_first::<1>(rt)? else {
+            break;
+        };
+        show_case(rt, first[0])?;
+    }
+    Ok(())
+}
+
+// Reads a case behind its first byte, makes its call and prints its line.
+fn show_case(rt: &(impl Input + Print + Eprint), first: u8) -> Result<(), Cut> {
+    let mut bytes = [0; 7];
+    read_all(rt, &mut bytes)?;
+    let head = Head(bytes);
+    let call = call_of(first).ok_or(Cut)?;
+    if !head.is_held() {
+        return Err(Cut);
+    }
+    let mut file = [0; 70000];
+    let file = &mut file[..head.file_length()];
+    read_all(rt, file)?;
+    let mut area = rubbish_area(head.rubbish());
+    show_line(rt, call, file, &mut area[..head.area_length()])
+}
+
+fn call_of(first: u8) -> Option<Call> {
+    match first {
+        b'n' => Some(Call::Newer),
+        b'o' => Some(Call::Older),
+        b'w' => Some(Call::Other),
+        _ => None,
     }
 }
 
-// One case. False where the program stops.
-fn next_case(rt: &(impl Input + Print + Eprint)) -> bool {
-    let mut first = [0u8; 1];
-    let received = streams::read_input(rt, &mut first);
-    if received.failed {
-        show_cut(rt);
-        return false;
+fn rubbish_area(rubbish: u8) -> [u8; 5000] {
+    let mut area = [0; 5000];
+    let mut entry = rubbish;
+    for byte in &mut area {
+        *byte = entry;
+        entry = entry.wrapping_add(7);
     }
-    if received.count == 0 {
-        return false;
-    }
-    let shown = convert_case(rt, first[0]);
-    if !shown {
-        show_cut(rt);
-    }
-    shown
-}
-
-// False where the case is none, is cut short or too large, and nothing is printed; and where its line cannot be written.
-fn convert_case(rt: &(impl Input + Print + Eprint), call: u8) -> bool {
-    let mut head = [0u8; 7];
-    if !read_all(rt, &mut head) {
-        return false;
-    }
-    if !is_held(call, head) {
-        return false;
-    }
-    let mut file = [0u8; 70000];
-    if !read_all(rt, &mut file[0..file_length(head)]) {
-        return false;
-    }
-    show_case(rt, call, head, file)
-}
-
-fn is_held(call: u8, head: Head) -> bool {
-    is_call(call) && file_number(head) <= 70000 && number_at(head, 4) <= 5000
-}
-
-fn is_call(call: u8) -> bool {
-    call == b'n' || call == b'o' || call == b'w'
-}
-
-fn number_at(head: Head, at: usize) -> usize
-    ensures { result ≤ 65535 }
-{
-    numbers::number_at(&head, at) as usize
-}
-
-fn file_number(head: Head) -> usize {
-    number_at(head, 0) + 65536 * number_at(head, 2)
-}
-
-fn file_length(head: Head) -> usize
-    ensures { result ≤ 70000 }
-{
-    limited(file_number(head), 70000)
-}
-
-fn area_length(head: Head) -> usize
-    ensures { result ≤ 5000 }
-{
-    limited(number_at(head, 4), 5000)
-}
-
-fn rubbish_area(rubbish: u8) -> [u8; 5000]
-    ensures { 5000 ≡ length result }
-{
-    let mut area = [0u8; 5000];
-    fill(&mut area, rubbish);
     area
 }
 
-fn fill(area: &mut [u8], rubbish: u8) {
-    let mut byte = rubbish;
-    for place in area {
-        *place = byte;
-        byte = byte.wrapping_add(7);
-    }
-}
-
-// Makes the call and prints its line.
-fn show_case(rt: &(impl Print + Eprint), call: u8, head: Head, file: [u8; 70000]) -> bool {
-    let mut area = rubbish_area(head[6]);
-    show_line(
+fn show_line(
+    rt: &(impl Print + Eprint),
+    call: Call,
+    file: &[u8],
+    area: &mut [u8],
+) -> Result<(), Cut> {
+    let answer = match call {
+        Call::Newer => converter::newer(file, area),
+        Call::Older => converter::older(file, area),
+        Call::Other => converter::other(file, area),
+    };
+    show_conversion(rt, answer);
+    show_number(
         rt,
-        call,
-        &file[0..file_length(head)],
-        &mut area[0..area_length(head)],
-    )
-}
-
-fn show_line(rt: &(impl Print + Eprint), call: u8, file: &[u8], area: &mut [u8]) -> bool {
-    show_conversion(rt, converted(call, file, area));
-    show_sum(rt, area);
+        area.iter()
+            .fold(0, |sum, byte| with_number(sum, u64::from(*byte))),
+    );
     end_line(rt)
-}
-
-fn converted(call: u8, file: &[u8], area: &mut [u8]) -> Conversion {
-    match call {
-        b'n' => converter::newer(file, area),
-        b'o' => converter::older(file, area),
-        _ => converter::other(file, area),
-    }
 }
 
 fn show_conversion(rt: &(impl Print + Eprint), answer: Conversion) {
     match answer {
-        Conversion::Written(length) => {
-            streams::write_output(rt, b"written");
-            show_number(rt, length as u64);
+        Ok(length) => {
+            show_text(rt, b"written");
+            show_number(rt, u64::from(length));
         }
-        Conversion::Refused(number) => show_refused(rt, number),
+        Err(refusal) => show_refusal(rt, refusal),
     }
-}
-
-fn show_sum(rt: &(impl Print + Eprint), bytes: &[u8]) {
-    let mut sum: u64 = 0;
-    for byte in bytes {
-        sum = with_number(sum, wide(*byte) as u64);
-    }
-    show_number(rt, sum);
 }

@@ -3,19 +3,15 @@
 // nothing, and standard error says why.
 #![tactic(auto)]
 
-use converter::Conversion;
 use std::io::{Eprint, Print, Stderr};
 
 // Offset and length of a record add up to 131,070 at most, so a longer file is refused; one byte more is read, which is enough to
 // tell (`Long` in converter/specs/Conversions).
 fn main(rt: HostRuntime) {
     let mut input = [0u8; 131071];
-    let received = streams::read_input(&rt, &mut input);
-    if received.failed {
-        return;
+    if let Ok(n) = streams::read_input(&rt, &mut input) {
+        convert(&rt, rt.stderr(), &input[..n]);
     }
-    let n = received.count;
-    convert(&rt, rt.stderr(), &input[..n]);
 }
 
 // Writes the file in the other edition, or the number of the refusal.
@@ -23,11 +19,11 @@ fn convert(rt: &(impl Print + Eprint), stderr: Stderr, file: &[u8]) {
     let mut area = [0u8; filing::AREA_LENGTH];
     say_way(stderr, converter::is_present(file));
     match converter::other(file, &mut area) {
-        Conversion::Written(length) => {
+        Ok(length) => {
             let n = length as usize;
-            streams::write_output(rt, &area[..n]);
+            let _ = streams::write_output(rt, &area[..n]);
         }
-        Conversion::Refused(number) => show_refused(rt, number),
+        Err(refusal) => show_refused(rt, u8::from(refusal)),
     }
 }
 
@@ -46,7 +42,7 @@ fn say_way(stderr: Stderr, from_present: bool) {
 }
 
 fn show_refused(rt: &(impl Print + Eprint), number: u8) {
-    streams::write_output(rt, b"refused ");
-    streams::write_decimal(rt, number as u64);
-    streams::write_output(rt, b"\n");
+    let _ = streams::write_output(rt, b"refused ");
+    let _ = streams::write_decimal(rt, u64::from(number));
+    let _ = streams::write_output(rt, b"\n");
 }

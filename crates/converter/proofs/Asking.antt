@@ -8,7 +8,7 @@ use native.Mathlib.Omega.{arith}
 use lib.ListN.{length}
 use lib.Dec.{leb}
 use borrow.Author.Tests.{eq-eqb, ne_eqb, leb-true, not-true, not-false}
-use Rattle.lists.specs.Ladder.{Question, ◌or_else◌, first_no, accepted}
+use Rattle.lists.specs.Ladder.{Question, ◌or_else◌, first_no, accepted, refused}
 use Rattle.lists.specs.Tables.{tabulate}
 use Rattle.lists.specs.Outcome.{outcome}
 use Rattle.lists.proofs.Choices.{and_left, and_right}
@@ -17,8 +17,6 @@ use Rattle.lists.proofs.Tabled.{every_from}
 use Rattle.method.specs.Circuit.{Gate}
 use Rattle.method.proofs.Taking.{takes_range}
 use Rattle.editions.specs.declared.Edition.{Edition}
-use Rattle.editions.specs.declared.Reading.{Reading}
-use Rattle.editions.specs.declared.Reading.TheVariants as R
 use Rattle.editions.specs.File.{inputs_of, gates_of, delay_of, inertial_of, gate_of, circuit_of, record_head, kind_byte, kind_of}
 use Rattle.editions.specs.Lies.{Lies}
 use Rattle.editions.proofs.Lying.{gate_lies, list_lies}
@@ -26,13 +24,13 @@ use Rattle.editions.specs.Limits.{Writable}
 use Rattle.editions.specs.Questions as reader
 use Rattle.editions.proofs.Gated.{questions_numbered}
 use Rattle.editions.proofs.Accepted.{Passed, passed, counted}
-use Rattle.editions.proofs.Parts.{gates_listed, reading_accepted, inputs_are, gates_are}
+use Rattle.editions.proofs.Parts.{gates_listed, inputs_are, gates_are}
 use Rattle.editions.proofs.Faithful.{fanins_length_lem, gate_within, accepted_within}
 use Rattle.filing.specs.Filed.{area_length, area_question}
 use Rattle.filing.proofs.Filed.{file_most, filed_no, filed_yes}
-use Rattle.converter.specs.declared.Conversion.TheVariants as C
-use Rattle.converter.specs.Convert.{delays_up_to, on_paper}
+use Rattle.converter.specs.Convert.{delays_up_to}
 use Rattle.converter.specs.Steps.{questions_by, converted_by, Fit, Ready, WroteFile}
+use Rattle.editions.specs.declared.InputsAndGates.{InputsAndGates}
 
 -- ---- delays
 
@@ -53,77 +51,76 @@ module _ (from to : Edition) (file area : List ℕ) where
   joined = first_no_append (reader.questions from file) rest (questions_numbered from file)
 
   -- the reader's own number
-  module _ {r : Reading} (f : reader.on_paper r ≡ reader.read_of from file) where
-    pub refused_read : {number : ℕ} → r ≡ R.Refused number → outcome (on_paper (C.Refused number)) area ≡ converted_by from to file area
-    unfolding reader.on_paper reader.read_of converted_by on_paper
-    refused_read {number} e =
-        let q = refused_some (first_no (reader.questions from file)) (reader.inputs_and_gates_of from file) (sym f ∙ ap reader.on_paper e) in
-        let some : number ≡ 0 → ⊥ = λ z. omega (arith, q.1, z) in
-        filed_no (questions_by from to file area) _ area (joined ∙ rw q.0 (first_here number _ some)) some
+  pub refused_read : {number : ℕ} → refused number ≡ reader.read_of from file → outcome (refused number) area ≡ converted_by from to file area
+  unfolding reader.read_of converted_by
+  refused_read {number} e =
+      let q = refused_some (first_no (reader.questions from file)) (reader.inputs_and_gates_of from file) (sym e) in
+      let some : number ≡ 0 → ⊥ = λ z. omega (arith, q.1, z) in
+      filed_no (questions_by from to file area) _ area (joined ∙ rw q.0 (first_here number _ some)) some
 
-    module _ {inputs gates : ℕ} (e : r ≡ R.Accepted inputs gates) where
-      read_yes : reader.read_of from file ≡ accepted (record { inputs = inputs; gates = gates })
-      read_yes = reading_accepted from file f e
+  module _ {s : InputsAndGates} (e : accepted s ≡ reader.read_of from file) where
+    read_yes : reader.read_of from file ≡ accepted s
+    read_yes = sym e
 
-      all : Passed from file (record { inputs = inputs; gates = gates })
-      all = passed from file _ read_yes
+    all : Passed from file s
+    all = passed from file _ read_yes
 
-      read_none : first_no (reader.questions from file) ≡ 0
-      unfolding reader.read_of
-      read_none = (accepted_none (first_no (reader.questions from file)) (reader.inputs_and_gates_of from file) read_yes).0
+    read_none : first_no (reader.questions from file) ≡ 0
+    unfolding reader.read_of
+    read_none = (accepted_none (first_no (reader.questions from file)) (reader.inputs_and_gates_of from file) read_yes).0
 
-      joined_rest : first_no (questions_by from to file area) ≡ first_no rest
-      joined_rest = joined ∙ rw read_none
+    joined_rest : first_no (questions_by from to file area) ≡ first_no rest
+    joined_rest = joined ∙ rw read_none
 
-      -- what the function that asks 23 asks for
-      pub gates_lie : (j : ℕ) → j < gates → Lies (record_head from) file j
-      gates_lie j l = gate_lies from file all.head j (omega (arith, gates_are from file read_yes))
+    -- what the function that asks 23 asks for
+    pub gates_lie : (j : ℕ) → j < s.gates → Lies (record_head from) file j
+    gates_lie j l = gate_lies from file all.head j (omega (arith, gates_are from file read_yes))
 
-      pub no_10 : (length area ≡ area_length → ⊥) → outcome (on_paper (C.Refused 10)) area ≡ converted_by from to file area
-      unfolding converted_by on_paper
-      no_10 n = filed_no (questions_by from to file area) _ area (joined_rest ∙ ask_no _ _ _ (ne_eqb _ _ n)) (λ z. omega arith)
+    pub no_10 : (length area ≡ area_length → ⊥) → outcome (refused 10) area ≡ converted_by from to file area
+    unfolding converted_by
+    no_10 n = filed_no (questions_by from to file area) _ area (joined_rest ∙ ask_no _ _ _ (ne_eqb _ _ n)) (λ z. omega arith)
 
-      module _ (y : length area ≡ area_length) {b : Bool} (d : b ≡ delays_up_to to.most (tabulate gates (gate_of from file))) where
-        low : delays_up_to to.most (circuit_of from file).gates ≡ b
-        low = rw (gates_listed from file, ← gates_are from file read_yes) (sym d)
+    module _ (y : length area ≡ area_length) {b : Bool} (d : b ≡ delays_up_to to.most (tabulate s.gates (gate_of from file))) where
+      low : delays_up_to to.most (circuit_of from file).gates ≡ b
+      low = rw (gates_listed from file, ← gates_are from file read_yes) (sym d)
 
-        past_10 : first_no (questions_by from to file area) ≡ first_no ((delays_up_to to.most (circuit_of from file).gates or_else 23) ∷ [])
-        past_10 = joined_rest ∙ ask_yes _ _ _ (eq-eqb _ _ y)
+      past_10 : first_no (questions_by from to file area) ≡ first_no ((delays_up_to to.most (circuit_of from file).gates or_else 23) ∷ [])
+      past_10 = joined_rest ∙ ask_yes _ _ _ (eq-eqb _ _ y)
 
-        pub no_23 : not b ≡ true → outcome (on_paper (C.Refused 23)) area ≡ converted_by from to file area
-        unfolding converted_by on_paper
-        no_23 n = filed_no (questions_by from to file area) _ area (past_10 ∙ ask_no _ _ _ (low ∙ not-true b n)) (λ z. omega arith)
+      pub no_23 : not b ≡ true → outcome (refused 23) area ≡ converted_by from to file area
+      unfolding converted_by
+      no_23 n = filed_no (questions_by from to file area) _ area (past_10 ∙ ask_no _ _ _ (low ∙ not-true b n)) (λ z. omega arith)
 
-        module _ (n : not b ≡ false) where
-          each_fit : Writable to → (j : ℕ) → j < gates_of file → Fit from to file j
-          unfolding gate_of
-          each_fit fit j l =
-              let both = low_at from file to.most (gates_of file) (rw (gates_listed from file) at (low ∙ not-false b n)) j l in
-              let own = gate_within from file j (all.gate j l) in
-              let there = gate_lies from file all.head j l in
+      module _ (n : not b ≡ false) where
+        each_fit : Writable to → (j : ℕ) → j < gates_of file → Fit from to file j
+        unfolding gate_of
+        each_fit fit j l =
+            let both = low_at from file to.most (gates_of file) (rw (gates_listed from file) at (low ∙ not-false b n)) j l in
+            let own = gate_within from file j (all.gate j l) in
+            let there = gate_lies from file all.head j l in
+            record {
+              lies = there;
+              listed = list_lies from file j there (kind_of (kind_byte file j)) (all.gate j l).suits;
+              entries = omega (arith, (takes_range _ _ own.entries).1, fanins_length_lem from file j);
+              delay = omega (arith, both.0, fit.delays);
+              inertial = omega (arith, both.1, fit.delays);
+            }
+
+        -- what the function that writes asks for
+        pub ready : Writable to → Ready from to file area × (s.inputs ≡ inputs_of from file) × (s.gates ≡ gates_of file)
+        ready fit =
+            let h = all.head in
+            let w = accepted_within from file _ read_yes in (
               record {
-                lies = there;
-                listed = list_lies from file j there (kind_of (kind_byte file j)) (all.gate j l).suits;
-                entries = omega (arith, (takes_range _ _ own.entries).1, fanins_length_lem from file j);
-                delay = omega (arith, both.0, fit.delays);
-                inertial = omega (arith, both.1, fit.delays);
-              }
+                gates = record { few = h.gates_most; each = each_fit fit };
+                counts = omega (arith, (counted from file h).inputs_most, fit.counts);
+                room = omega (arith, file_most to from (circuit_of from file) w, y);
+              },
+              inputs_are from file read_yes,
+              gates_are from file read_yes,
+            )
 
-          -- what the function that writes asks for
-          pub ready : Writable to → Ready from to file area × (inputs ≡ inputs_of from file) × (gates ≡ gates_of file)
-          ready fit =
-              let h = all.head in
-              let w = accepted_within from file _ read_yes in (
-                record {
-                  gates = record { few = h.gates_most; each = each_fit fit };
-                  counts = omega (arith, (counted from file h).inputs_most, fit.counts);
-                  room = omega (arith, file_most to from (circuit_of from file) w, y);
-                },
-                inputs_are from file read_yes,
-                gates_are from file read_yes,
-              )
-
-          pub written_all : {end : ℕ} {area' : List ℕ} → WroteFile from to file area area' end → outcome (on_paper (C.Written end)) area' ≡ converted_by from to file area
-          unfolding converted_by on_paper
-          written_all w =
-              filed_yes (questions_by from to file area) _ area (past_10 ∙ ask_yes _ _ _ (low ∙ not-false b n) ∙ all_asked) w.ends w.is
+        pub written_all : {end : ℕ} {area' : List ℕ} → WroteFile from to file area area' end → outcome (accepted end) area' ≡ converted_by from to file area
+        unfolding converted_by
+        written_all w =
+            filed_yes (questions_by from to file area) _ area (past_10 ∙ ask_yes _ _ _ (low ∙ not-false b n) ∙ all_asked) w.ends w.is

@@ -25,13 +25,14 @@ use Rattle.editions.proofs.Faithful.{faithful, former_writable, present_writable
 use Rattle.filing.specs.Filed.{area_length}
 use Rattle.filing.proofs.Filed.{file_most, filed_yes, answered_yes, left_yes}
 use Rattle.numbers.specs.Numbers.{number_at}
-use Rattle.converter.specs.declared.Conversion.{Conversion}
-use Rattle.converter.specs.declared.Conversion.TheVariants as C
-use Rattle.converter.specs.Convert.{delays_up_to, newer_of, older_of, present_from, other_of, on_paper}
+use Rattle.converter.specs.Convert.{delays_up_to, newer_of, older_of, present_from, other_of}
 use Rattle.converter.specs.Conversions.{Holds, Conversions}
 use Rattle.converter.specs.Steps.{questions_by, converted_by}
 use Rattle.converter.proofs.Asking.{rest, joined}
 use Rattle.converter.proofs.Both.{low_within, within_other, newer_is, older_is}
+use Rattle.std.specs.Prelude.{Result, Ok}
+use Rattle.method.specs.declared.Refusal.{Refusal}
+use Rattle.method.specs.Refusals.{on_paper}
 
 -- ---- both ways at once
 
@@ -123,8 +124,7 @@ other_most file area n e = go (leb present_from (number_at file 0)) e
     go true y = within_left (conversions.older_reads file area n y)
     go false y = within_left (conversions.newer_reads file area n y)
 
-pub other_inside : (file area : List ℕ) {area' : List ℕ} {r : Conversion} → outcome (on_paper r) area' ≡ other_of file area → {n : ℕ} → r ≡ C.Written n → n ≤ length area'
-unfolding on_paper
+pub other_inside : (file area : List ℕ) {area' : List ℕ} {r : Result ℕ Refusal} → outcome (on_paper r) area' ≡ other_of file area → {n : ℕ} → r ≡ Ok n → n ≤ length area'
 other_inside file area {area'} e {n} w =
     subst (λ (l : List ℕ). n ≤ length l) (sym (ap (λ (o : Outcome ℕ (List ℕ)). o.left) e))
     (other_most file area n (sym (ap (λ (o : Outcome ℕ (List ℕ)). o.answer) e) ∙ ap on_paper w))

@@ -1,14 +1,16 @@
 -- A file written anew, gate by gate: the loops over the gates and over a gate's fan-ins.
 -- Assumes nothing.
-use Prim.Native.Nat.{ℕ, ◌+◌, ◌-◌, ◌*◌, ◌<◌, ◌≤◌}
+use Prim.Native.Nat.{ℕ, zero, suc, ◌+◌, ◌-◌, ◌*◌, ◌<◌, ◌≤◌}
+use lib.Dec.{leb}
 use mathlib.Core.Path.{◌≡◌, refl, sym, ap, ◌∙◌}
-use mathlib.Core.Bool.{Bool, true, false}
+use Rattle.std.specs.List.{list_all, range_with_len}
+use mathlib.Core.Bool.{◌&&◌, Bool}
 use mathlib.Core.List.{List, [], ◌∷◌, ◌++◌, flat_map, append_assoc}
 use native.Mathlib.Omega.{arith}
-use native.Mathlib.Nat.{sub-zero, add-zero}
+use native.Mathlib.Nat.{sub-zero}
+use native.Mathlib.Numerals.{add-one}
 use lib.ListN.{length, length-append}
 use lib.Seq.{sets}
-use borrow.Author.Tests.{le-leb, lt-leb}
 use Rattle.lists.specs.Tables.{tabulate_from, tabulate}
 use Rattle.lists.specs.Areas.{cleared, padded}
 use Rattle.lists.proofs.Tabled.{from_step, from_end}
@@ -16,7 +18,7 @@ use Rattle.method.specs.Kinds.{most_fanins}
 use Rattle.method.specs.Circuit.{Gate, Circuit}
 use Rattle.editions.specs.declared.Edition.{Edition}
 use Rattle.editions.specs.declared.GateRecord.{GateRecord}
-use Rattle.editions.specs.File.{inputs_of, gates_of, head_length, record_head, record_length, delay_of, inertial_of, entries_of, fanin_at, fanins_of, gate_of, circuit_of, record_of}
+use Rattle.editions.specs.File.{inputs_of, gates_of, head_length, record_head, record_length, entries_of, fanin_at, fanins_of, gate_of, circuit_of, record_of}
 use Rattle.editions.specs.Limits.{delay_range}
 use Rattle.editions.specs.Encode.{two_bytes, encode_head, encode_gate, encode_pairs, encode}
 use Rattle.editions.proofs.Bytewise.{two_length}
@@ -24,7 +26,7 @@ use Rattle.editions.proofs.Written.{head_length_lem, gate_length}
 use Rattle.editions.proofs.Encoded.{head_most}
 use Rattle.editions.proofs.Parts.{circuit_inputs, gates_listed, gates_length}
 use Rattle.editions.proofs.Faithful.{fanins_length_lem}
-use Rattle.filing.proofs.Putting.{Storing, store_none, store_more, store_all, put_both}
+use Rattle.filing.proofs.Putting.{Storing, store_more, store_all, put_both}
 use Rattle.filing.proofs.Filed.{file_length, filed}
 use Rattle.converter.specs.Convert.{delays_up_to}
 use Rattle.converter.specs.Steps.{gates_in, Fit, Fits, Ready, Wrote, WroteFile}
@@ -38,9 +40,6 @@ record_few ed file j a few = omega (arith, few, ap (λ (r : GateRecord). r.entri
 pub head_few : (ed : Edition) {head : ℕ} → head ≡ record_head ed → head ≤ 5
 head_few ed h = omega (arith, head_most ed, h)
 
-pub some_fit : (from to : Edition) (file : List ℕ) (n : ℕ) → Fits from to file n → {j : ℕ} → j < n → Fits from to file (j + 1)
-some_fit from to file n f l = record { few = omega (arith, f.few); each = λ k h. f.each k (omega arith) }
-
 pub all_fit : (from to : Edition) (file area : List ℕ) → Ready from to file area → {gates : ℕ} → gates ≡ gates_of file → Fits from to file gates
 all_fit from to file area r g = rw g r.gates
 
@@ -49,43 +48,22 @@ unfolding record_of
 record_small from to file j a f =
     (omega (arith, f.delay, ap (λ (r : GateRecord). r.delay) a), omega (arith, f.inertial, ap (λ (r : GateRecord). r.inertial) a))
 
--- ---- question 23, one gate after the other: n of them, j passed
+-- ---- question 23: n gates from gate j on
 
-module _ (ed : Edition) (file : List ℕ) (most n j : ℕ) {whole : Bool} (h : whole ≡ delays_up_to most (gates_in ed file n j)) where
-  pub low_end : n ≤ j → true ≡ whole
-  unfolding delays_up_to
-  low_end l = sym (h ∙ rw (from_end n j (gate_of ed file) l))
+-- is no delay of gate i above the greatest?
+abbrev pub low : Edition → List ℕ → ℕ → ℕ → Bool
+low ed file most i = leb (record_of ed file i).delay most && leb (record_of ed file i).inertial most
 
-  module _ (l : j < n) {g : GateRecord} (a : g ≡ record_of ed file j) where
-    pub delay_high : most < g.delay → false ≡ whole
-    unfolding delays_up_to gate_of record_of
-    delay_high d =
-        let e : most < delay_of ed file j = rw (← ap (λ (r : GateRecord). r.delay) a) d in
-        sym (h ∙ rw (from_step n j (gate_of ed file) l, lt-leb (delay_of ed file j) most e))
-
-    module _ (low : g.delay ≤ most) where
-      pub inertial_high : most < g.inertial → false ≡ whole
-      unfolding delays_up_to gate_of record_of
-      inertial_high d =
-          let e : delay_of ed file j ≤ most = rw (← ap (λ (r : GateRecord). r.delay) a) low in
-          let f : most < inertial_of ed file j = rw (← ap (λ (r : GateRecord). r.inertial) a) d in
-          sym (h ∙ rw (from_step n j (gate_of ed file) l, le-leb (delay_of ed file j) most e, lt-leb (inertial_of ed file j) most f))
-
-      pub low_next : g.inertial ≤ most → whole ≡ delays_up_to most (gates_in ed file n (j + 1))
-      unfolding delays_up_to gate_of record_of
-      low_next d =
-          let e : delay_of ed file j ≤ most = rw (← ap (λ (r : GateRecord). r.delay) a) low in
-          let f : inertial_of ed file j ≤ most = rw (← ap (λ (r : GateRecord). r.inertial) a) d in
-          h ∙ rw (from_step n j (gate_of ed file) l, le-leb (delay_of ed file j) most e, le-leb (inertial_of ed file j) most f)
+pub low_all : (ed : Edition) (file : List ℕ) (most n j : ℕ) → list_all (low ed file most) (range_with_len j n) ≡ delays_up_to most (tabulate_from n j (gate_of ed file))
+unfolding delays_up_to tabulate_from gate_of record_of
+low_all ed file most zero j = refl
+low_all ed file most (suc n) j = rw (add-one j) (ap (λ (b : Bool). low ed file most j && b) (low_all ed file most n (suc j)))
 
 -- ---- the fan-ins of a gate: i of n are written
 
 abbrev pub Copying : (ℕ → ℕ) → List ℕ → ℕ → ℕ → List ℕ → ℕ → Type 0
 Copying f area₀ at n area i =
     Storing area₀ at (flat_map two_bytes (tabulate n f)) area (at + 2 * i) (flat_map two_bytes (tabulate_from (n - i) i f))
-
-pub copy_none : (f : ℕ → ℕ) (area : List ℕ) (at n : ℕ) → Copying f area at n area 0
-copy_none f area at n = record { same = refl; is = rw (sub-zero, add-zero) }
 
 module _ (f : ℕ → ℕ) {area₀ area : List ℕ} (at n i : ℕ) (s : Copying f area₀ at n area i) where
   pub copy_more : i < n → {r : ℕ} → r ≡ f i → {area' : List ℕ} → area' ≡ sets area (at + 2 * i) (two_bytes r) → Copying f area₀ at n area' (i + 1)
@@ -127,12 +105,8 @@ module _ (from to : Edition) (file : List ℕ) (n : ℕ) where
   entries_are j = fanins_length_lem from file j
 
   pub record Pairing (area₀ area : List ℕ) (start j : ℕ) : Type 0 where
-    pub within : j ≤ n
     pub low : start ≤ head_length n + 21 * j
     pub stored : Storing area₀ 4 (encode_pairs to (head_length n) (gates_in from file n 0)) area (4 + 4 * j) (encode_pairs to start (gates_in from file n j))
-
-  pub pairing_none : (area : List ℕ) → Pairing area area (head_length n) 0
-  pairing_none area = record { within = omega arith; low = omega arith; stored = store_none area 4 _ _ refl }
 
   module _ {area₀ area : List ℕ} {start j : ℕ} (p : Pairing area₀ area start j) where
     pub pairing_more : j < n → {g : GateRecord} → g ≡ record_of from file j → entries_of from file j ≤ most_fanins → {head : ℕ} → head ≡ record_head to
@@ -145,7 +119,6 @@ module _ (from to : Edition) (file : List ℕ) (n : ℕ) where
         let rest = encode_pairs to (start + len) (gates_in from file n (j + 1)) in
         let most = p.low in
         record {
-          within = omega arith;
           low = omega (arith, most, record_few from file j a few, head_most to, h);
           stored = rw same
               (store_more p.stored (two_bytes start ++ two_bytes len) rest (rw (gate_first j l) (sym (append_assoc (two_bytes start) (two_bytes len) rest))) (rw (← same) e)
@@ -164,13 +137,9 @@ module _ (from to : Edition) (file : List ℕ) (n : ℕ) where
   records_first j l = rw (gate_first j l)
 
   pub record Recording (area₀ area : List ℕ) (at j : ℕ) : Type 0 where
-    pub within : j ≤ n
     pub low : at ≤ head_length n + 21 * j
     pub sum : at + length (flat_map (encode_gate to) (gates_in from file n j)) ≡ head_length n + length (flat_map (encode_gate to) (gates_in from file n 0))
     pub stored : Storing area₀ (head_length n) (flat_map (encode_gate to) (gates_in from file n 0)) area at (flat_map (encode_gate to) (gates_in from file n j))
-
-  pub recording_none : (area : List ℕ) → Recording area area (head_length n) 0
-  recording_none area = record { within = omega arith; low = omega arith; sum = refl; stored = store_none area (head_length n) _ _ refl }
 
   module _ {area₀ area : List ℕ} {at j : ℕ} (p : Recording area₀ area at j) where
     pub recording_more : j < n → entries_of from file j ≤ most_fanins → {area' : List ℕ} {end : ℕ} → Wrote area at (encode_gate to (gate_of from file j)) area' end → Recording area₀ area' end (j + 1)
@@ -180,7 +149,6 @@ module _ (from to : Edition) (file : List ℕ) (n : ℕ) where
         let first = records_first j l in
         let long = gate_length to own in
         record {
-          within = omega arith;
           low = omega (arith, w.ends, long, entries_are j, few, head_most to, p.low);
           sum = omega (arith, w.ends, p.sum, ap length first, length-append (encode_gate to own) (records (j + 1)));
           stored = store_more p.stored (encode_gate to own) (records (j + 1)) first w.is w.ends;

@@ -1,6 +1,6 @@
 -- From one edition of the circuit file to the other: the questions, and what the calls answer and leave.
 use Rattle.std.specs.Prelude.{ℕ, Bool, cond, ◌&&◌, List, [], ◌∷◌, ◌++◌, map, leb}
-use Rattle.lists.specs.Ladder.{Question, ◌or_else◌, Answer, accepted, refused}
+use Rattle.lists.specs.Ladder.{Question, ◌or_else◌}
 use Rattle.lists.specs.Tables.{every}
 use Rattle.lists.specs.Outcome.{Outcome}
 use Rattle.numbers.specs.Numbers.{number_at}
@@ -10,8 +10,6 @@ use Rattle.editions.specs.File.{circuit_of}
 use Rattle.editions.specs.Questions as reader
 use Rattle.editions.specs.Encode.{encode}
 use Rattle.filing.specs.Filed.{area_question, filed_by}
-use Rattle.converter.specs.declared.Conversion.{Conversion}
-use Rattle.converter.specs.declared.Conversion.TheVariants.{Written, Refused}
 
 -- is no delay of these gates above the greatest?
 unfoldable pub delays_up_to : ℕ → List Gate → Bool
@@ -53,8 +51,3 @@ present_from = 256
 
 unfoldable pub other_of : List ℕ → List ℕ → Outcome ℕ (List ℕ)
 other_of file area = cond (leb present_from (number_at file 0)) (older_of file area) (newer_of file area)
-
--- a `Conversion` in the paper's terms: the length of the file written, or the number alone
-unfoldable pub on_paper : Conversion → Answer ℕ
-on_paper (Written n) = accepted n
-on_paper (Refused n) = refused n

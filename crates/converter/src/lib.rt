@@ -4,25 +4,23 @@
 ghost use Rattle.std.specs.Prelude.{◌≡◌, leb};
 ghost use Rattle.lists.specs.Outcome.{outcome};
 ghost use Rattle.numbers.specs.Numbers.{number_at};
+ghost use Rattle.method.specs.Refusals.{on_paper};
 ghost use Rattle.editions.specs.Limits.{Writable};
-ghost use Rattle.converter.specs.Convert.{present_from, newer_of, older_of, other_of, on_paper};
+ghost use Rattle.converter.specs.Convert.{present_from, newer_of, older_of, other_of};
 ghost use Rattle.converter.specs.Steps.{converted_by};
 
 mod writing;
 
-use editions::{Edition, Reading, former, present};
+use editions::{Edition, former, present};
 use filing::AREA_LENGTH;
+use method::Refusal;
 use writing::{delays_up_to, write};
 
 // Bytes 0-1 of this and more say that a file is of the present edition.
 const PRESENT_FROM: u16 = 256;
 
-// What converting answers: the length of the file written, or the number of the first "no".
-#[derive(Clone, Copy)]
-pub enum Conversion {
-    Written(u16),
-    Refused(u8),
-}
+// What converting answers: the length of the file written, or the first "no".
+pub type Conversion = Result<u16, Refusal>;
 
 // Writes a file of the former edition into the area as one of the present edition, its rest 0.
 pub fn newer(file: &[u8], area: &mut [u8]) -> Conversion
@@ -61,16 +59,12 @@ fn convert(from: Edition, to: Edition, file: &[u8], area: &mut [u8]) -> Conversi
     requires { Writable to }
     ensures { outcome (on_paper result) area.new ≡ converted_by from to file.now area.old }
 {
-    match editions::read(from, file) {
-        Reading::Refused(number) => Conversion::Refused(number),
-        Reading::Accepted { inputs, gates } => {
-            if area.len() != AREA_LENGTH {
-                return Conversion::Refused(10);
-            }
-            if !delays_up_to(from, to.most, file, gates) {
-                return Conversion::Refused(23);
-            }
-            Conversion::Written(write(from, to, file, inputs, gates, area))
-        }
+    let read = editions::read(from, file)?;
+    if area.len() != AREA_LENGTH {
+        return Err(Refusal::AreaLengths);
     }
+    if !delays_up_to(from, to.most, file, read.gates) {
+        return Err(Refusal::DelayTooLong);
+    }
+    Ok(write(from, to, file, read.inputs, read.gates, area))
 }

@@ -18,18 +18,10 @@ pub(crate) fn delays_up_to(edition: Edition, most: Tick, file: &[u8], gates: u16
     requires { (j : ℕ) → j < gates → Lies (record_head edition) file.now j }
     ensures { result ≡ delays_up_to most (tabulate gates (gate_of edition file.now)) }
 {
-    let mut j: u16 = 0;
-    while j < gates {
+    (0..gates).all(|j| {
         let gate = gate_at(edition, file, j);
-        if most < gate.delay {
-            return false;
-        }
-        if most < gate.inertial {
-            return false;
-        }
-        j += 1;
-    }
-    true
+        gate.delay <= most && gate.inertial <= most
+    })
 }
 
 // Writes all of the file and zeros behind it, and answers its length.
@@ -44,7 +36,7 @@ pub(crate) fn write(
     requires { Ready from to file.now area.old × (inputs ≡ inputs_of from file.now) × (gates ≡ gates_of file.now) }
     ensures { WroteFile from to file.now area.old area.new result }
 {
-    clearing::clear_bytes(area);
+    clearing::clear(area);
     put_pair(area, 0, inputs + to.added, gates);
     write_pairs(from, to, file, gates, area);
     write_records(from, to, file, gates, area)
@@ -56,13 +48,11 @@ fn write_pairs(from: Edition, to: Edition, file: &[u8], gates: u16, area: &mut [
     ensures { area.new ≡ sets area.old 4 (encode_pairs to (head_length gates) (gates_in from file.now gates 0)) }
 {
     let mut start = 4 + 4 * gates;
-    let mut j: u16 = 0;
-    while j < gates {
+    for j in 0..gates {
         let gate = gate_at(from, file, j);
         let len = record_head(to) + 2 * gate.entries;
         put_pair(area, 4 + 4 * j as usize, start, len);
         start += len;
-        j += 1;
     }
 }
 
@@ -72,10 +62,8 @@ fn write_records(from: Edition, to: Edition, file: &[u8], gates: u16, area: &mut
     ensures { Wrote area.old (head_length gates) (flat_map (encode_gate to) (gates_in from file.now gates 0)) area.new result }
 {
     let mut at = 4 + 4 * gates;
-    let mut j: u16 = 0;
-    while j < gates {
+    for j in 0..gates {
         at = write_record(from, to, file, j, area, at);
-        j += 1;
     }
     at
 }
@@ -98,10 +86,8 @@ fn copy_fanins(file: &[u8], list: u32, entries: u16, area: &mut [u8], at: u16)
     requires { list + 2 * entries ≤ length file.now }
     ensures { area.new ≡ sets area.old at (flat_map two_bytes (tabulate entries (fanin_at file.now list))) }
 {
-    let mut i: u16 = 0;
-    while i < entries {
+    for i in 0..entries {
         let fanin = fanin_at(file, list, i);
         put_number(area, at as usize + 2 * i as usize, fanin.0);
-        i += 1;
     }
 }

@@ -21,13 +21,13 @@ use Rattle.circuit.specs.File.{gates_of}
 use Rattle.circuit.specs.Task.{Task, moments_in}
 use Rattle.gathering.specs.Steps.{spans}
 use Rattle.framing.specs.Steps.{Timed}
-use Rattle.layout.specs.declared.Progress.TheVariants as P
 use Rattle.layout.specs.Steps.{frames_of, Given, Open, Begun}
 use Rattle.layout.proofs.Accepted.{given_long}
 use Rattle.layout.proofs.Filling.{nets_all}
 use Rattle.layout.proofs.Starting.{inputs_open, inputs_none, going_none}
-use Rattle.layout.proofs.Stepping.{Stays, given_alike, never}
+use Rattle.layout.proofs.Stepping.{Stays, given_alike}
 use Rattle.counting.specs.Steps.{Asked, Counting, CountedTo, Totalled}
+use Rattle.std.specs.Prelude.{Some, None}
 
 -- ---- the inputs, in areas of zeros
 
@@ -93,22 +93,22 @@ module _ {task : Task} {net j : ℕ} {d t : List ℕ} {totals : Totals} (c : Cou
 
 -- ---- what is reached
 
-pub counted_now : {task : Task} {n : ℕ} {d t : List ℕ} {totals : Totals} → Counting task n d t totals → CountedTo task n d t (P.Planned totals)
-counted_now {task} {n} {d} {t} {totals} c = record { planned = λ u e. (let q : totals ≡ u = cc in rw q at c); stopped = λ e. absurd (never e) }
+pub counted_now : {task : Task} {n : ℕ} {d t : List ℕ} {totals : Totals} → Counting task n d t totals → CountedTo task n d t (Some totals)
+counted_now {task} {n} {d} {t} {totals} c = record { planned = λ u e. (let q : totals ≡ u = cc in rw q at c); stopped = λ e. absurd cc }
 
-pub counted_many : {task : Task} {n : ℕ} {d t : List ℕ} → fits (frames_of task n) ≡ false → CountedTo task n d t P.TooMany
-counted_many h = record { planned = λ u e. absurd (never (sym e)); stopped = λ e. h }
+pub counted_many : {task : Task} {n : ℕ} {d t : List ℕ} → fits (frames_of task n) ≡ false → CountedTo task n d t None
+counted_many h = record { planned = λ u e. absurd cc; stopped = λ e. h }
 
 -- all gates were tried
 module _ (task : Task) {gates : ℕ} (all : gates ≡ gates_of task.file) where
-  pub totalled : {d t : List ℕ} {totals : Totals} → Counting task gates d t totals → Totalled task (P.Planned totals)
+  pub totalled : {d t : List ℕ} {totals : Totals} → Counting task gates d t totals → Totalled task (Some totals)
   totalled {d} {t} {totals} c =
       record {
         fit = λ u e. rw (nets_all task all) at c.going.fit;
         totals = λ u e. (let q : u ≡ totals = cc in q ∙ (rw (nets_all task all) at c.going.totals));
-        stopped = λ e. absurd (never e);
+        stopped = λ e. absurd cc;
       }
 
-  pub totalled_none : fits (frames_of task gates) ≡ false → Totalled task P.TooMany
+  pub totalled_none : fits (frames_of task gates) ≡ false → Totalled task None
   totalled_none h =
-      record { fit = λ u e. absurd (never (sym e)); totals = λ u e. absurd (never (sym e)); stopped = λ e. rw (nets_all task all) at h }
+      record { fit = λ u e. absurd cc; totals = λ u e. absurd cc; stopped = λ e. rw (nets_all task all) at h }

@@ -9,9 +9,8 @@ use Rattle.method.specs.Sums.{fits, totals_of}
 use Rattle.circuit.specs.File.{inputs_of, gates_of}
 use Rattle.circuit.specs.Questions.{read_of}
 use Rattle.circuit.specs.Task.{Task, frames_in}
-use Rattle.layout.specs.declared.Progress.{Progress}
-use Rattle.layout.specs.declared.Progress.TheVariants as P
 use Rattle.layout.specs.Steps.{frames_of, Given, Going}
+use Rattle.std.specs.Prelude.{Option, Some, None}
 
 -- an accepted file, and change times that suit it
 pub record Asked (task : Task) : Type 0 where
@@ -26,12 +25,12 @@ pub record Counting (task : Task) (j : ℕ) (d t : List ℕ) (totals : Totals) :
   pub going : Going task j (areas d t inertial fanins) totals
 
 -- after n gates were tried: they are counted, or there are too many frames
-pub record CountedTo (task : Task) (n : ℕ) (d t : List ℕ) (r : Progress) : Type 0 where
-  pub planned : (totals : Totals) → r ≡ P.Planned totals → Counting task n d t totals
-  pub stopped : r ≡ P.TooMany → fits (frames_of task n) ≡ false
+pub record CountedTo (task : Task) (n : ℕ) (d t : List ℕ) (r : Option Totals) : Type 0 where
+  pub planned : (totals : Totals) → r ≡ Some totals → Counting task n d t totals
+  pub stopped : r ≡ None → fits (frames_of task n) ≡ false
 
 -- all gates were tried: the totals are those of all nets, or there are too many frames
-pub record Totalled (task : Task) (r : Progress) : Type 0 where
-  pub fit : (t : Totals) → r ≡ P.Planned t → fits (frames_in task) ≡ true
-  pub totals : (t : Totals) → r ≡ P.Planned t → t ≡ totals_of (frames_in task)
-  pub stopped : r ≡ P.TooMany → fits (frames_in task) ≡ false
+pub record Totalled (task : Task) (r : Option Totals) : Type 0 where
+  pub fit : (t : Totals) → r ≡ Some t → fits (frames_in task) ≡ true
+  pub totals : (t : Totals) → r ≡ Some t → t ≡ totals_of (frames_in task)
+  pub stopped : r ≡ None → fits (frames_in task) ≡ false

@@ -42,6 +42,7 @@ use Rattle.converter.specs.Convert.{newer_questions, newer_file, newer_of, older
 use Rattle.demands.specs.Answers.{Answered, Leaves, LeavesUnless, SameRefusal, SameVerdict}
 use Rattle.demands.specs.Runs.{Marked, Ran, HoldsPlan}
 use Rattle.demands.specs.Marks.{Met, MetByMachine, Place}
+use Rattle.editions.specs.declared.InputsAndGates.{InputsAndGates}
 
 -- ---- demand 1
 
@@ -88,7 +89,7 @@ pub record Demand1 : Type 0 where
 -- lists;"
 pub record Demand2Method : Type 0 where
   -- of every accepted file's circuit the method's equations hold net by net, and none of them looks up a default
-  pub every_net : (file : List ℕ) (s : circuit.InputsAndGates) → circuit.read_of file ≡ accepted s → EveryNet (circuit_of file) × EveryGate (circuit_of file)
+  pub every_net : (file : List ℕ) (s : InputsAndGates) → circuit.read_of file ≡ accepted s → EveryNet (circuit_of file) × EveryGate (circuit_of file)
   -- Plan and the calls that run accept only accepted files
   pub plan_read : (task : Task) (limit : ℕ) (entry left : PlanAreas) (totals : Totals)
       → outcome (accepted totals) left ≡ plan_of task limit entry → circuit.read_of task.file ≡ accepted (circuit.inputs_and_gates_of task.file)

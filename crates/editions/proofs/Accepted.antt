@@ -14,7 +14,8 @@ use Rattle.lists.proofs.Ladders.{asked, all_asked, ask_yes, accepted_none, unles
 use Rattle.numbers.specs.Numbers.{number_at}
 use Rattle.editions.specs.File.{inputs_of, gates_of, head_length, length_of, record_head, kind_byte, delay_of, inertial_of, entries_of, fanins_of, kind_of}
 use Rattle.editions.specs.Limits.{most_inputs, most_gates, delays_suit}
-use Rattle.editions.specs.Questions.{fills, length_suits, head_questions, gate_questions, questions, InputsAndGates, inputs_and_gates_of, read_of}
+use Rattle.editions.specs.declared.InputsAndGates.{InputsAndGates}
+use Rattle.editions.specs.Questions.{fills, length_suits, head_questions, gate_questions, questions, inputs_and_gates_of, read_of}
 use Rattle.editions.proofs.Gated.{head_numbered, gate_numbered}
 use Rattle.editions.specs.declared.Edition.{Edition}
 

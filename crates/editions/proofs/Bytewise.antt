@@ -17,7 +17,8 @@ use Rattle.method.specs.declared.Kind.{Kind}
 use Rattle.method.specs.declared.Kind.TheVariants.{Buf, Not, And, Nand, Or, Nor, Xor, Xnor}
 use Rattle.numbers.specs.Numbers.{number_at}
 use Rattle.editions.specs.File.{fanin_at, kind_of}
-use Rattle.editions.specs.Encode.{two_bytes, kind_number}
+use Rattle.method.specs.Kinds.{kind_number}
+use Rattle.editions.specs.Encode.{two_bytes}
 use Rattle.editions.specs.Faithful.{Bytes}
 
 -- ---- two-byte numbers
@@ -70,7 +71,7 @@ list_length_lem (f ∷ fs) = length-append (two_bytes f) (flat_map two_bytes fs)
 -- ---- kinds
 
 pub kind_number_lem : (k : Kind) → kind_of (kind_number k) ≡ k
-unfolding kind_of kind_number
+unfolding kind_of
 kind_number_lem Buf = refl
 kind_number_lem Not = refl
 kind_number_lem And = refl
@@ -81,7 +82,7 @@ kind_number_lem Xor = refl
 kind_number_lem Xnor = refl
 
 pub number_kind : (n : ℕ) → n ≤ 7 → n ≡ kind_number (kind_of n)
-unfolding kind_of kind_number
+unfolding kind_of
 number_kind zero h = refl
 number_kind (suc zero) h = refl
 number_kind (suc (suc zero)) h = refl
@@ -93,7 +94,6 @@ number_kind (suc (suc (suc (suc (suc (suc (suc zero))))))) h = refl
 number_kind (suc (suc (suc (suc (suc (suc (suc (suc n)))))))) h = absurd (omega arith)
 
 pub kind_most : (k : Kind) → kind_number k ≤ 7
-unfolding kind_number
 kind_most Buf = omega arith
 kind_most Not = omega arith
 kind_most And = omega arith

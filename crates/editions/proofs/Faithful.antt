@@ -18,7 +18,8 @@ use Rattle.method.specs.Kinds.{takes}
 use Rattle.method.specs.Circuit.{Circuit}
 use Rattle.editions.specs.File.{inputs_of, gates_of, head_length, offset_of, length_of, record_head, record_length, kind_byte, delay_of, inertial_of, entries_of, fanins_of, kind_of, gate_of, circuit_of}
 use Rattle.editions.specs.Limits.{most_inputs, delays_suit, GateWithin, GatesWithin, Within, delay_range, Writable}
-use Rattle.editions.specs.Questions.{fills, length_suits, InputsAndGates, inputs_and_gates_of, read_of}
+use Rattle.editions.specs.declared.InputsAndGates.{InputsAndGates}
+use Rattle.editions.specs.Questions.{fills, length_suits, inputs_and_gates_of, read_of}
 use Rattle.editions.specs.Encode.{two_bytes, encode_gate, encode_pairs, encode}
 use Rattle.editions.specs.Faithful.{Bytes, inputs_and_gates_in, Faithful, BothFaithful}
 use Rattle.editions.proofs.Heads.{no_2}

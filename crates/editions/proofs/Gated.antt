@@ -5,7 +5,7 @@ use mathlib.Core.Path.{◌≡◌, refl, sym, ◌∙◌}
 use mathlib.Core.List.{List, flatten}
 use mathlib.Core.Bool.{Bool, true, false, not}
 use lib.ListN.{drop}
-use borrow.Author.Tests.{eq-eqb, ne_eqb, le-leb, lt-leb, lt-ltb, le-ltb, not-true, not-false}
+use borrow.Author.Tests.{eq-eqb, ne_eqb, le-leb, lt-leb, not-true, not-false}
 use Rattle.lists.specs.Ladder.{first_no, between, accepted, refused}
 use Rattle.lists.specs.Tables.{tabulate_from, tabulate, all_below}
 use Rattle.lists.proofs.Ladders.{ask_yes, ask_no, all_asked, first_no_append, first, first_here, unless_none, unless_some, numbered, quiet, leaves_alone, each_append, quiet_numbered}
@@ -20,20 +20,6 @@ use Rattle.editions.specs.Limits.{delays_suit}
 use Rattle.editions.specs.Questions.{length_suits, head_questions, gate_questions, questions, inputs_and_gates_of, read_of}
 use Rattle.editions.specs.declared.Edition.{Edition}
 use Rattle.editions.proofs.Widths.{two_bytes_lem, head_of_five, wide_delay}
-
--- question 9, one fan-in after the other: n of them, i passed
-module _ (net n i : ℕ) (f : ℕ → ℕ) {whole : Bool} (h : whole ≡ all_below net (tabulate_from (n - i) i f)) where
-  pub not_below : i < n → {r : ℕ} → r ≡ f i → net ≤ r → false ≡ whole
-  unfolding all_below
-  not_below l a y = sym (h ∙ rw (from_step n i f l, ← a, le-ltb _ _ y))
-
-  pub below_next : i < n → {r : ℕ} → r ≡ f i → r < net → whole ≡ all_below net (tabulate_from (n - (i + 1)) (i + 1) f)
-  unfolding all_below
-  below_next l a y = h ∙ rw (from_step n i f l, ← a, lt-ltb _ _ y)
-
-  pub below_end : n ≤ i → true ≡ whole
-  unfolding all_below
-  below_end l = sym (h ∙ rw (from_end n i f l))
 
 -- the kind, from the numbers read
 pub kind_read : (file : List ℕ) (j : ℕ) {start k : ℕ} → start ≡ offset_of file j → k ≡ byte_at file start → k ≡ kind_byte file j
@@ -51,12 +37,12 @@ module _ (ed : Edition) where
     inertial_decides y f = f ∙ rw (← e, not-false b y)
 
   -- question 8
-  module _ (len n m : ℕ) {head : ℕ} (h : head ≡ record_head ed) where
-    pub length_out : (len ≡ head + 2 * m → ⊥) → false ≡ length_suits ed len (kind_of n) m
+  module _ (len : ℕ) (kind : Kind) (m : ℕ) {head : ℕ} (h : head ≡ record_head ed) where
+    pub length_out : (len ≡ head + 2 * m → ⊥) → false ≡ length_suits ed len kind m
     unfolding length_suits
     length_out d = rw (← h, ne_eqb _ _ d)
 
-    pub kind_decides : len ≡ head + 2 * m → {r : Bool} → r ≡ takes (kind_of n) m → r ≡ length_suits ed len (kind_of n) m
+    pub kind_decides : len ≡ head + 2 * m → {r : Bool} → r ≡ takes kind m → r ≡ length_suits ed len kind m
     unfolding length_suits
     kind_decides e f = f ∙ rw (← h, eq-eqb _ _ e)
 
@@ -115,9 +101,9 @@ module _ (ed : Edition) where
     unfolding record_of
     read_7 f = f ∙ rw e
 
-    pub read_8 : (k : ℕ) {len : ℕ} → len ≡ length_of file j → b ≡ length_suits ed len (kind_of k) g.entries → b ≡ length_suits ed (length_of file j) (kind_of k) (entries_of ed file j)
+    pub read_8 : {k : Kind} (n : ℕ) → k ≡ kind_of n → {len : ℕ} → len ≡ length_of file j → b ≡ length_suits ed len k g.entries → b ≡ length_suits ed (length_of file j) (kind_of n) (entries_of ed file j)
     unfolding record_of
-    read_8 k l f = f ∙ rw (e, l)
+    read_8 n k l f = f ∙ rw (e, l, k)
 
     pub read_9 : {net : ℕ} → net ≡ inputs_of ed file + j → b ≡ all_below net (tabulate g.entries (fanin_at file g.list)) → b ≡ all_below (inputs_of ed file + j) (fanins_of ed file j)
     unfolding record_of fanins_of

@@ -1,18 +1,16 @@
--- What others cite of a file in an edition: its circuit's inputs and gates, and what the reader's answer says where it is an
--- acceptance.
+-- What others cite of a file in an edition: its circuit's inputs and gates, and the numbers of an acceptance.
 -- Assumes nothing.
 use Prim.Native.Nat.{ℕ}
-use mathlib.Core.Path.{◌≡◌, refl, sym, ap, ◌∙◌}
+use mathlib.Core.Path.{◌≡◌, refl, sym, ap}
 use mathlib.Core.List.{List}
 use lib.ListN.{length}
 use Rattle.lists.specs.Ladder.{accepted}
 use Rattle.lists.specs.Tables.{tabulate}
 use Rattle.lists.proofs.Tabled.{from_length}
 use Rattle.editions.specs.declared.Edition.{Edition}
-use Rattle.editions.specs.declared.Reading.{Reading}
-use Rattle.editions.specs.declared.Reading.TheVariants.{Accepted}
 use Rattle.editions.specs.File.{inputs_of, gates_of, gate_of, circuit_of}
-use Rattle.editions.specs.Questions.{InputsAndGates, inputs_and_gates_of, read_of, on_paper}
+use Rattle.editions.specs.declared.InputsAndGates.{InputsAndGates}
+use Rattle.editions.specs.Questions.{inputs_and_gates_of, read_of}
 use Rattle.editions.proofs.Accepted.{passed}
 
 module _ (ed : Edition) (file : List ℕ) where
@@ -27,10 +25,6 @@ module _ (ed : Edition) (file : List ℕ) where
   pub gates_length : length (circuit_of ed file).gates ≡ gates_of file
   unfolding circuit_of
   gates_length = from_length (gates_of file) 0 (gate_of ed file)
-
-  pub reading_accepted : {r : Reading} → on_paper r ≡ read_of ed file → {inputs gates : ℕ} → r ≡ Accepted inputs gates → read_of ed file ≡ accepted (record { inputs = inputs; gates = gates })
-  unfolding on_paper
-  reading_accepted f e = sym f ∙ ap on_paper e
 
   -- the answer's numbers are the file's
   module _ {inputs gates : ℕ} (e : read_of ed file ≡ accepted (record { inputs = inputs; gates = gates })) where

@@ -14,7 +14,8 @@ use Rattle.method.specs.Circuit.{Gate}
 use Rattle.editions.specs.declared.Edition.{Edition}
 use Rattle.editions.specs.Edition.{delay_bytes}
 use Rattle.editions.specs.File.{offset_of, length_of, record_head, record_length, kind_byte, delay_at, delay_of, inertial_of, entries_of, fanins_of, gate_of}
-use Rattle.editions.specs.Encode.{two_bytes, kind_number, encode_delay, encode_head, encode_gate, encode_pairs}
+use Rattle.method.specs.Kinds.{kind_number}
+use Rattle.editions.specs.Encode.{two_bytes, encode_delay, encode_head, encode_gate, encode_pairs}
 use Rattle.editions.specs.Faithful.{Bytes}
 use Rattle.editions.proofs.Bytewise.{number_stands, stands_number, two_length, list_stands, stands_list, list_length_lem, kind_number_lem}
 

@@ -2,7 +2,7 @@
 use Rattle.std.specs.Prelude.{ℕ, ◌+◌, ◌/◌, ◌%◌, cond, length}
 use mathlib.Core.List.{List, [], ◌∷◌, ◌++◌, flat_map}
 use Rattle.method.specs.declared.Kind.{Kind}
-use Rattle.method.specs.declared.Kind.TheVariants.{Buf, Not, And, Nand, Or, Nor, Xor, Xnor}
+use Rattle.method.specs.Kinds.{kind_number}
 use Rattle.method.specs.Circuit.{Gate, Circuit}
 use Rattle.editions.specs.declared.Edition.{Edition}
 use Rattle.editions.specs.File.{head_length, record_length}
@@ -10,16 +10,6 @@ use Rattle.editions.specs.File.{head_length, record_length}
 -- a two-byte number, little-endian
 unfoldable pub two_bytes : ℕ → List ℕ
 two_bytes n = n % 256 ∷ n / 256 ∷ []
-
-unfoldable pub kind_number : Kind → ℕ
-kind_number Buf = 0
-kind_number Not = 1
-kind_number And = 2
-kind_number Nand = 3
-kind_number Or = 4
-kind_number Nor = 5
-kind_number Xor = 6
-kind_number Xnor = 7
 
 module _ (e : Edition) where
   -- a delay: two bytes, or one

@@ -6,7 +6,8 @@ use Rattle.method.specs.Circuit.{Circuit}
 use Rattle.editions.specs.declared.Edition.{Edition}
 use Rattle.editions.specs.Edition.{former, present}
 use Rattle.editions.specs.File.{circuit_of}
-use Rattle.editions.specs.Questions.{InputsAndGates, read_of}
+use Rattle.editions.specs.declared.InputsAndGates.{InputsAndGates}
+use Rattle.editions.specs.Questions.{read_of}
 use Rattle.editions.specs.Limits.{Within}
 use Rattle.editions.specs.Encode.{encode}
 

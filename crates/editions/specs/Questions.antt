@@ -1,7 +1,7 @@
 -- The reader's questions 1 to 9 in their order, in an edition, and what it answers.
 use Rattle.std.specs.Prelude.{ℕ, zero, suc, ◌+◌, Bool, ◌&&◌, length, leb, eqb}
 use mathlib.Core.List.{List, [], ◌∷◌, ◌++◌, flatten}
-use Rattle.lists.specs.Ladder.{Question, ◌or_else◌, between, Answer, accepted, refused, answer}
+use Rattle.lists.specs.Ladder.{Question, ◌or_else◌, between, Answer, answer}
 use Rattle.lists.specs.Tables.{tabulate, all_below}
 use Rattle.numbers.specs.Numbers.{number_at}
 use Rattle.method.specs.declared.Kind.{Kind}
@@ -9,13 +9,7 @@ use Rattle.method.specs.Kinds.{takes}
 use Rattle.editions.specs.declared.Edition.{Edition}
 use Rattle.editions.specs.File.{inputs_of, gates_of, head_length, offset_of, length_of, record_head, record_length, kind_byte, delay_of, inertial_of, entries_of, fanins_of, kind_of}
 use Rattle.editions.specs.Limits.{most_inputs, most_gates, delays_suit}
-use Rattle.editions.specs.declared.Reading.{Reading}
-use Rattle.editions.specs.declared.Reading.TheVariants.{Accepted, Refused}
-
--- what an accepted file answers: I and G
-pub record InputsAndGates : Type 0 where
-  pub inputs : ℕ
-  pub gates : ℕ
+use Rattle.editions.specs.declared.InputsAndGates.{InputsAndGates}
 
 -- question 5, for the n pairs from pair j on: does the first start at `end`, each later one where the one before ended, is each
 -- length `least` or more, and is the last end the file's length (for no pair: is `end`)? No sum wraps.
@@ -66,8 +60,3 @@ module _ (e : Edition) where
   -- what the reader answers: the number of the first "no", or I and G
   unfoldable pub read_of : List ℕ → Answer InputsAndGates
   read_of file = answer (questions file) (inputs_and_gates_of file)
-
--- a `Reading` in the paper's terms: I and G, or the number alone
-unfoldable pub on_paper : Reading → Answer InputsAndGates
-on_paper (Accepted i g) = accepted (record { inputs = i; gates = g })
-on_paper (Refused n) = refused n

@@ -56,18 +56,9 @@ pub(crate) fn entries_of(len: u16, head: u16) -> u16
     if len < head { 0 } else { (len - head) / 2 }
 }
 
-// The kind with this number.
+// The kind with this number, and XNOR for a number that is no kind's.
 pub(crate) fn kind_of(number: u8) -> Kind
     ensures { result ≡ kind_of number }
 {
-    match number {
-        0 => Kind::Buf,
-        1 => Kind::Not,
-        2 => Kind::And,
-        3 => Kind::Nand,
-        4 => Kind::Or,
-        5 => Kind::Nor,
-        6 => Kind::Xor,
-        _ => Kind::Xnor,
-    }
+    Kind::try_from(number).unwrap_or(Kind::Xnor)
 }

@@ -6,9 +6,10 @@ ghost use Rattle.lists.specs.Ladder.{first_no, between};
 ghost use Rattle.lists.specs.Tables.{tabulate, all_below};
 ghost use mathlib.Core.List.{flatten};
 ghost use Rattle.method.specs.Kinds.{takes};
+ghost use Rattle.method.specs.Refusals.{first_of, on_paper};
 ghost use Rattle.editions.specs.Edition as edition;
-ghost use Rattle.editions.specs.File.{inputs_of, head_length, record_head, fanin_at, kind_of, record_of};
-ghost use Rattle.editions.specs.Questions.{fills, head_questions, gate_questions, length_suits, read_of, on_paper};
+ghost use Rattle.editions.specs.File.{inputs_of, head_length, record_head, fanin_at, record_of};
+ghost use Rattle.editions.specs.Questions.{fills, head_questions, gate_questions, length_suits, read_of};
 ghost use Rattle.editions.specs.Limits.{most_inputs, most_gates, delays_suit};
 ghost use Rattle.editions.specs.Lies.{Lies};
 
@@ -16,7 +17,7 @@ mod bytes;
 
 use bytes::{delay_at, entries_of, kind_of, length_of, offset_of};
 pub use bytes::{delay_bytes, record_head};
-use method::{Kind, Net, Tick};
+use method::{Kind, Net, Refusal, Tick};
 use numbers::{number_at, number_in};
 
 const MOST_INPUTS: u16 = 32;
@@ -55,12 +56,15 @@ pub fn former() -> Edition
     }
 }
 
-// What reading a circuit file answers: I and G, or the number of the first "no".
+// What an accepted circuit file answers: I and G.
 #[derive(Clone, Copy)]
-pub enum Reading {
-    Accepted { inputs: u16, gates: u16 },
-    Refused(u8),
+pub struct InputsAndGates {
+    pub inputs: u16,
+    pub gates: u16,
 }
+
+// What reading a circuit file answers: I and G, or the first "no".
+pub type Reading = Result<InputsAndGates, Refusal>;
 
 // A gate's record, taken apart: its fan-in list has `entries` entries and starts at byte `list`.
 #[derive(Clone, Copy)]
@@ -76,17 +80,11 @@ pub struct GateRecord {
 pub fn read(edition: Edition, file: &[u8]) -> Reading
     ensures { on_paper result ≡ read_of edition file.now }
 {
-    let fault = head_fault(edition, file);
-    if fault != 0 {
-        return Reading::Refused(fault);
-    }
+    ask_head(edition, file)?;
     let inputs = inputs_of(edition, file);
     let gates = number_at(file, 2);
-    let fault = gates_fault(edition, file, inputs, gates);
-    if fault != 0 {
-        return Reading::Refused(fault);
-    }
-    Reading::Accepted { inputs, gates }
+    ask_gates(edition, file, inputs, gates)?;
+    Ok(InputsAndGates { inputs, gates })
 }
 
 // I, where bytes 0-1 hold it; else a number that question 2 has refused.
@@ -150,28 +148,28 @@ pub fn fanin_at(file: &[u8], list: u32, i: u16) -> Net
     Net(number_in(file, list as usize + 2 * (i as usize)))
 }
 
-// Questions 1 to 5: the number of the first "no", or 0.
-fn head_fault(edition: Edition, file: &[u8]) -> u8
-    ensures { result ≡ first_no (head_questions edition file.now) }
+// Questions 1 to 5.
+fn ask_head(edition: Edition, file: &[u8]) -> Result<(), Refusal>
+    ensures { first_of result ≡ first_no (head_questions edition file.now) }
 {
     if file.len() < 4 {
-        return 1;
+        return Err(Refusal::ShortFile);
     }
     let held = number_at(file, 0);
     let gates = number_at(file, 2);
     if !inputs_suit(edition.added, held) {
-        return 2;
+        return Err(Refusal::InputCount);
     }
     if !slices::is_between(0, MOST_GATES, gates) {
-        return 3;
+        return Err(Refusal::GateCount);
     }
     if file.len() < 4 + 4 * (gates as usize) {
-        return 4;
+        return Err(Refusal::ShortPairs);
     }
     if !records_fill(file, gates, record_head(edition)) {
-        return 5;
+        return Err(Refusal::RecordPlaces);
     }
-    0
+    Ok(())
 }
 
 // Question 2, of what bytes 0-1 hold.
@@ -190,8 +188,7 @@ fn records_fill(file: &[u8], gates: u16, least: u16) -> bool
     ensures { result ≡ fills least file.now gates 0 (head_length gates) }
 {
     let mut end = 4 + 4 * (gates as usize);
-    let mut j: u16 = 0;
-    while j < gates {
+    for j in 0..gates {
         let start = offset_of(file, j) as usize;
         let len = length_of(file, j);
         if start != end {
@@ -201,49 +198,42 @@ fn records_fill(file: &[u8], gates: u16, least: u16) -> bool
             return false;
         }
         end = start + len as usize;
-        j += 1;
     }
     end == file.len()
 }
 
-// Questions 6 to 9, gate by gate: the number of the first "no", or 0.
-fn gates_fault(edition: Edition, file: &[u8], inputs: u16, gates: u16) -> u8
+// Questions 6 to 9, gate by gate.
+fn ask_gates(edition: Edition, file: &[u8], inputs: u16, gates: u16) -> Result<(), Refusal>
     requires inputs_value { (inputs ≡ inputs_of edition file.now) × (inputs ≤ most_inputs) × (gates ≤ most_gates) }
     requires by_index { (j : ℕ) → j < gates → Lies (record_head edition) file.now j }
-    ensures { result ≡ first_no (flatten (tabulate gates (gate_questions edition file.now))) }
+    ensures { first_of result ≡ first_no (flatten (tabulate gates (gate_questions edition file.now))) }
 {
-    let mut j: u16 = 0;
-    while j < gates {
-        let fault = gate_fault(edition, file, j, Net(inputs + j));
-        if fault != 0 {
-            return fault;
-        }
-        j += 1;
+    for j in 0..gates {
+        ask_gate(edition, file, j, Net(inputs + j))?;
     }
-    0
+    Ok(())
 }
 
-// Questions 6 to 9 of gate j, which drives `net`: the number of the first "no", or 0.
-fn gate_fault(edition: Edition, file: &[u8], j: u16, net: Net) -> u8
+// Questions 6 to 9 of gate j, which drives `net`.
+fn ask_gate(edition: Edition, file: &[u8], j: u16, net: Net) -> Result<(), Refusal>
     requires { (net.0 ≡ inputs_of edition file.now + j) × Lies (record_head edition) file.now j }
-    ensures { result ≡ first_no (gate_questions edition file.now j) }
+    ensures { first_of result ≡ first_no (gate_questions edition file.now j) }
 {
     let start = offset_of(file, j) as usize;
-    let kind = file[start];
-    if 7 < kind {
-        return 6;
-    }
+    let Ok(kind) = Kind::try_from(file[start]) else {
+        return Err(Refusal::GateKind);
+    };
     let gate = gate_at(edition, file, j);
     if !delays_suit(edition, gate.delay, gate.inertial) {
-        return 7;
+        return Err(Refusal::Delays);
     }
     if !length_suits(edition, length_of(file, j), kind, gate.entries) {
-        return 8;
+        return Err(Refusal::RecordLength);
     }
     if !fanins_below(file, gate.list, gate.entries, net) {
-        return 9;
+        return Err(Refusal::FaninNumber);
     }
-    0
+    Ok(())
 }
 
 // Question 7.
@@ -251,15 +241,15 @@ fn delays_suit(edition: Edition, delay: Tick, inertial: Tick) -> bool
     ensures { result ≡ delays_suit edition delay inertial }
 {
     let most = edition.most;
-    if !slices::ticks_between(1, most, delay) {
+    if !slices::is_between(1, most, delay) {
         return false;
     }
-    slices::ticks_between(0, most, inertial)
+    slices::is_between(0, most, inertial)
 }
 
 // Question 8: a record of this length has this many fan-in entries, and the kind takes them.
-fn length_suits(edition: Edition, len: u16, kind: u8, entries: u16) -> bool
-    ensures { result ≡ length_suits edition len (kind_of kind) entries }
+fn length_suits(edition: Edition, len: u16, kind: Kind, entries: u16) -> bool
+    ensures { result ≡ length_suits edition len kind entries }
 {
     let head = record_head(edition) as u32;
     if len as u32 != head + 2 * (entries as u32) {
@@ -268,14 +258,14 @@ fn length_suits(edition: Edition, len: u16, kind: u8, entries: u16) -> bool
     takes_entries(kind, entries)
 }
 
-// Whether the kind with this number takes this many fan-in entries.
-fn takes_entries(kind: u8, entries: u16) -> bool
-    ensures { result ≡ takes (kind_of kind) entries }
+// Whether the kind takes this many fan-in entries.
+fn takes_entries(kind: Kind, entries: u16) -> bool
+    ensures { result ≡ takes kind entries }
 {
-    if kind < 2 {
-        return entries == 1;
+    match kind {
+        Kind::Buf | Kind::Not => entries == 1,
+        _ => slices::is_between(2, MOST_FANINS, entries),
     }
-    slices::is_between(2, MOST_FANINS, entries)
 }
 
 // Question 9: whether the entries of the fan-in list at byte `list` are all below `net`.
@@ -283,14 +273,5 @@ fn fanins_below(file: &[u8], list: u32, entries: u16, net: Net) -> bool
     requires { list + 2 * entries ≤ length file.now }
     ensures { result ≡ all_below net.0 (tabulate entries (fanin_at file.now list)) }
 {
-    let own = net.0;
-    let mut i: u16 = 0;
-    while i < entries {
-        let fanin = fanin_at(file, list, i);
-        if own <= fanin.0 {
-            return false;
-        }
-        i += 1;
-    }
-    true
+    (0..entries).all(|i| fanin_at(file, list, i).0 < net.0)
 }

@@ -7,7 +7,7 @@ use mathlib.Core.List.{List, ◌∷◌, append_assoc}
 use lib.Dec.{eqb}
 use lib.ListN.{length}
 use borrow.Author.Tests.{eq-eqb}
-use Rattle.lists.specs.Ladder.{Question, ◌or_else◌, first_no, Answer, unless}
+use Rattle.lists.specs.Ladder.{Question, ◌or_else◌, first_no, Answer, unless, refused}
 use Rattle.lists.specs.Outcome.{Outcome, outcome, clears, left_by}
 use Rattle.lists.specs.Areas.{cleared, padded}
 use Rattle.lists.proofs.Ladders.{is_number, numbered, leaves_alone, quiet, each_append, quiet_numbered, first, first_here, first_no_append, first_no_behind, unless_some}
@@ -20,10 +20,8 @@ use Rattle.circuit.specs.Task.{Task, frames_in, all_packed_in}
 use Rattle.circuit.proofs.Present.{questions_quiet}
 use Rattle.method.specs.declared.Totals.{Totals}
 use Rattle.method.specs.Sums.{totals_of}
-use Rattle.limiting.specs.declared.Planning.{Planning}
-use Rattle.limiting.specs.declared.Planning.TheVariants as Q
 use Rattle.limiting.specs.Questions.{last_questions}
-use Rattle.limiting.specs.Planned.{within_of, on_paper}
+use Rattle.limiting.specs.Planned.{within_of}
 use Rattle.limiting.proofs.Within.{last_no}
 use Rattle.simulation.specs.Simulated.{values_left, Simulated}
 use Rattle.method.specs.Layout.{laid}
@@ -32,6 +30,9 @@ use Rattle.method.specs.Areas as layout
 use Rattle.engine.specs.Areas.{Areas, all_cleared}
 use Rattle.engine.specs.Questions.{values_length, areas_suit, own_questions, first_questions, questions}
 use Rattle.engine.specs.Run.{filled, run_left, run_of}
+use Rattle.std.specs.Prelude.{Result}
+use Rattle.method.specs.declared.Refusal.{Refusal}
+use Rattle.method.specs.Refusals.{on_paper}
 
 -- ---- the ladder
 
@@ -84,12 +85,11 @@ module _ (task : Task) (limit : ℕ) (w : WordLists) (a : Areas) where
   ran e = rw e
 
   refusal : {n : ℕ} → first_no (questions task limit (lengths_of w) a) ≡ n → (n ≡ 0 → ⊥) → {b : Areas} → b ≡ left n
-      → outcome (on_paper (Q.Refused n)) b ≡ run_of task limit w a
-  unfolding on_paper
+      → outcome (refused n) b ≡ run_of task limit w a
   refusal {n} e h l = sym (ran e ∙ rw (unless_some n (totals_of (frames_in task)) h, ← l))
 
   -- all but 13 and 22: nothing is written
-  pub run_no : {n : ℕ} → n ≡ first_no (first_questions task (lengths_of w) a) → (n ≡ 0 → ⊥) → outcome (on_paper (Q.Refused n)) a ≡ run_of task limit w a
+  pub run_no : {n : ℕ} → n ≡ first_no (first_questions task (lengths_of w) a) → (n ≡ 0 → ⊥) → outcome (refused n) a ≡ run_of task limit w a
   run_no {n} e h =
       refusal (joined task (lengths_of w) a limit ∙ rw (← e) (first_here n _ h)) h
       (sym (left_quiet _ _ a (first_questions task (lengths_of w) a) (first_quiet task (lengths_of w) a) e h))
@@ -106,7 +106,7 @@ module _ (task : Task) (limit : ℕ) (w : WordLists) (a : Areas) where
       go false false = refl
 
   -- the rest is planning within the limit, and the values
-  pub run_yes : first_no (first_questions task (lengths_of w) a) ≡ 0 → {r : Planning} {p : layout.Areas} {v : List ℕ} → Simulated task limit w a.plan a.values r p v
+  pub run_yes : first_no (first_questions task (lengths_of w) a) ≡ 0 → {r : Result Totals Refusal} {p : layout.Areas} {v : List ℕ} → Simulated task limit w a.plan a.values r p v
       → outcome (on_paper r) (record { plan = p; values = v }) ≡ run_of task limit w a
   unfolding within_of
   run_yes e {r} {p} {v} s =

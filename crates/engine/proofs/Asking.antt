@@ -7,14 +7,12 @@ use mathlib.Core.List.{List, [], ◌∷◌}
 use native.Mathlib.Omega.{arith}
 use lib.ListN.{length}
 use borrow.Author.Tests.{eqb-true, eq-eqb, ne_eqb, not-true, not-false}
-use Rattle.lists.specs.Ladder.{Question, ◌or_else◌, first_no, accepted}
+use Rattle.lists.specs.Ladder.{Question, ◌or_else◌, first_no, accepted, refused}
 use Rattle.lists.proofs.Choices.{and_left, and_right}
 use Rattle.lists.proofs.Ladders.{asked, ask_yes, ask_no, all_asked}
 use Rattle.method.specs.Changes.{Schedule, changes_suit}
 use Rattle.method.specs.WordLists.{Lengths, words_suit}
 use Rattle.circuit.specs.File.{inputs_of, gates_of}
-use Rattle.editions.specs.declared.Reading.{Reading}
-use Rattle.editions.specs.declared.Reading.TheVariants as R
 use Rattle.circuit.specs.Questions as reader
 use Rattle.circuit.specs.Task.{Task, nets_in, frames_in}
 use Rattle.method.specs.Areas as planner
@@ -26,6 +24,7 @@ use Rattle.circuit.proofs.Parts.{circuit_inputs, gates_length, few}
 use Rattle.method.proofs.Fitting.{fits_total}
 use Rattle.planner.proofs.Calling.{given_all}
 use Rattle.simulation.specs.Simulated.{Ready}
+use Rattle.editions.specs.declared.InputsAndGates.{InputsAndGates}
 
 -- ---- questions 10, 11 and 20
 
@@ -64,46 +63,44 @@ module _ (task : Task) (l : Lengths) (a : Areas) where
   abbrev own : List Question
   own = own_questions (inputs_of task.file) task.schedule l a
 
-  module _ {r : Reading} (f : reader.on_paper r ≡ reader.read_of task.file) where
-    pub reader_no : {n : ℕ} → r ≡ R.Refused n → reader.on_paper (R.Refused n) ≡ questions_of task l a
+  pub reader_no : {n : ℕ} → refused n ≡ reader.read_of task.file → refused n ≡ questions_of task l a
+  unfolding questions_of first_questions
+  reader_no e = ahead.reader_no task.file own e
+
+  module _ {s : InputsAndGates} (e : accepted s ≡ reader.read_of task.file) {n : ℕ} (is : n ≡ first_no (own_questions s.inputs task.schedule l a)) where
+    own_is : n ≡ first_no own
+    own_is = is ∙ rw (ahead.read_yes task.file own e).1
+
+    pub own_no : (n ≡ 0 → ⊥) → refused n ≡ questions_of task l a
     unfolding questions_of first_questions
-    reader_no e = ahead.reader_no task.file own f e
+    own_no some = ahead.own_no task.file own e own_is some
 
-    module _ {inputs gates : ℕ} (e : r ≡ R.Accepted inputs gates) {n : ℕ} (is : n ≡ first_no (own_questions inputs task.schedule l a)) where
-      own_is : n ≡ first_no own
-      own_is = is ∙ rw (ahead.read_yes task.file own f e).1
-
-      pub own_no : (n ≡ 0 → ⊥) → reader.on_paper (R.Refused n) ≡ questions_of task l a
-      unfolding questions_of first_questions
-      own_no some = ahead.own_no task.file own f e own_is some
-
-      pub own_yes : n ≡ 0 → reader.on_paper (R.Accepted inputs gates) ≡ questions_of task l a
-      unfolding questions_of first_questions
-      own_yes z = ahead.own_yes task.file own f e own_is z
+    pub own_yes : n ≡ 0 → accepted s ≡ questions_of task l a
+    unfolding questions_of first_questions
+    own_yes z = ahead.own_yes task.file own e own_is z
 
   -- what their answer says
-  module _ {r : Reading} (f : reader.on_paper r ≡ questions_of task l a) where
-    pub asked_no : {n : ℕ} → r ≡ R.Refused n → (n ≡ first_no (first_questions task l a)) × (n ≡ 0 → ⊥)
+  pub asked_no : {n : ℕ} → refused n ≡ questions_of task l a → (n ≡ first_no (first_questions task l a)) × (n ≡ 0 → ⊥)
+  unfolding questions_of first_questions
+  asked_no e = ahead.asked_no task.file own e
+
+  module _ {s : InputsAndGates} (e : accepted s ≡ questions_of task l a) where
+    yes : (first_no (first_questions task l a) ≡ 0) × (s.inputs ≡ inputs_of task.file) × (s.gates ≡ gates_of task.file)
     unfolding questions_of first_questions
-    asked_no e = ahead.asked_no task.file own f e
+    yes = ahead.asked_yes task.file own e
 
-    module _ {inputs gates : ℕ} (e : r ≡ R.Accepted inputs gates) where
-      yes : (first_no (first_questions task l a) ≡ 0) × (inputs ≡ inputs_of task.file) × (gates ≡ gates_of task.file)
-      unfolding questions_of first_questions
-      yes = ahead.asked_yes task.file own f e
+    pub asked_none : first_no (first_questions task l a) ≡ 0
+    asked_none = yes.0
 
-      pub asked_none : first_no (first_questions task l a) ≡ 0
-      asked_none = yes.0
+    pub asked_inputs : s.inputs ≡ inputs_of task.file
+    asked_inputs = yes.1
 
-      pub asked_inputs : inputs ≡ inputs_of task.file
-      asked_inputs = yes.1
+    pub asked_gates : s.gates ≡ gates_of task.file
+    asked_gates = yes.2
 
-      pub asked_gates : gates ≡ gates_of task.file
-      asked_gates = yes.2
-
-      -- I and G are how many nets there are
-      pub asked_nets : nets_in task ≡ inputs + gates
-      asked_nets = ap₂ ◌+◌ (circuit_inputs task.file ∙ sym asked_inputs) (gates_length task.file ∙ sym asked_gates)
+    -- I and G are how many nets there are
+    pub asked_nets : nets_in task ≡ s.inputs + s.gates
+    asked_nets = ap₂ ◌+◌ (circuit_inputs task.file ∙ sym asked_inputs) (gates_length task.file ∙ sym asked_gates)
 
 -- ---- all answered yes
 
@@ -132,11 +129,11 @@ pub few_nets : (task : Task) (l : Lengths) (a : Areas) → first_no (first_quest
 few_nets task l a e = let most = few task.file (passed task l a e).read in omega (arith, circuit_inputs task.file, gates_length task.file, most)
 
 -- and a run may follow
-pub asked_yes : (task : Task) (l : Lengths) (a : Areas) {r : Reading} → reader.on_paper r ≡ questions_of task l a → {inputs gates : ℕ} → r ≡ R.Accepted inputs gates
-    → Ready task l a.plan a.values × (inputs ≡ inputs_of task.file) × (gates ≡ gates_of task.file)
-asked_yes task l a f e =
-    let y = passed task l a (asked_none task l a f e) in
-    (record { given = given_all task a.plan y.read y.suits y.timed; worded = y.worded; words = λ fit. omega (arith, fits_total (frames_in task) fit, y.values) }, asked_inputs task l a f e, asked_gates task l a f e)
+pub asked_yes : (task : Task) (l : Lengths) (a : Areas) {s : InputsAndGates} → accepted s ≡ questions_of task l a
+    → Ready task l a.plan a.values × (s.inputs ≡ inputs_of task.file) × (s.gates ≡ gates_of task.file)
+asked_yes task l a e =
+    let y = passed task l a (asked_none task l a e) in
+    (record { given = given_all task a.plan y.read y.suits y.timed; worded = y.worded; words = λ fit. omega (arith, fits_total (frames_in task) fit, y.values) }, asked_inputs task l a e, asked_gates task l a e)
 
 -- what passed once, with whatever areas, passes in areas that suit
 pub passed_again : (task : Task) (l : Lengths) (a : Areas) → reader.read_of task.file ≡ accepted (record { inputs = inputs_of task.file; gates = gates_of task.file }) → areas_suit a ≡ true → words_suit (inputs_of task.file) (length task.schedule.times) l ≡ true

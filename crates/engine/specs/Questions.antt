@@ -10,6 +10,7 @@ use Rattle.circuit.specs.Task.{Task, frames_in}
 use Rattle.limiting.specs.Questions.{last_questions}
 use Rattle.planner.specs.Questions as planner
 use Rattle.engine.specs.Areas.{Areas}
+use Rattle.editions.specs.declared.InputsAndGates.{InputsAndGates}
 
 abbrev pub values_length : ℕ
 values_length = 2048
@@ -27,7 +28,7 @@ unfoldable pub first_questions : Task → Lengths → Areas → List Question
 first_questions task l a = reader.questions task.file ++ own_questions (inputs_of task.file) task.schedule l a
 
 -- what these answer by themselves, for calls that ask more before they run: the number of the first "no", or I and G
-unfoldable pub questions_of : Task → Lengths → Areas → Answer reader.InputsAndGates
+unfoldable pub questions_of : Task → Lengths → Areas → Answer InputsAndGates
 questions_of task l a = answer (first_questions task l a) (reader.inputs_and_gates_of task.file)
 
 -- and 13 and 22

@@ -3,19 +3,18 @@
 
 ghost use Rattle.std.specs.Prelude.{◌≡◌};
 ghost use Rattle.lists.specs.Outcome.{outcome};
-ghost use Rattle.method.specs.WordLists.{word_lists, lengths_of};
-ghost use Rattle.circuit.specs.Task.{task_of};
-ghost use Rattle.circuit.specs.Questions as reader;
-ghost use Rattle.limiting.specs.Planned.{on_paper};
+ghost use Rattle.method.specs.Refusals.{on_paper};
+ghost use Rattle.method.specs.WordLists.{words_in, lengths_of};
+ghost use Rattle.circuit.specs.Task.{task_in};
 ghost use Rattle.engine.specs.Areas.{areas};
 ghost use Rattle.engine.specs.Questions.{questions_of};
 ghost use Rattle.engine.specs.Run.{run_of};
 
-mod faults;
+mod own;
 
-use circuit::Reading;
-use faults::own_fault;
-use method::Tick;
+use circuit::{Reading, Task};
+use method::{Tick, Words};
+use own::ask_own;
 use planner::Planning;
 use simulation::simulate;
 
@@ -23,56 +22,46 @@ use simulation::simulate;
 // input and an after word for each change, inputs in order, and with no more frames than the caller's limit: questions 1 to 11,
 // then 20, 13 and 22. It answers what Plan does.
 pub fn run(
-    file: &[u8],
-    counts: &[u8],
-    changes: &[Tick],
+    task: Task,
     limit: u16,
     directory: &mut [u16],
     times: &mut [Tick],
     inertial: &mut [u16],
     fanins: &mut [u16],
     values: &mut [u64],
-    before: &[u64],
-    after: &[u64],
+    words: Words,
 ) -> Planning
-    ensures { outcome (on_paper result) (areas directory.new times.new inertial.new fanins.new values.new) ≡ run_of (task_of file.now counts.now changes.now) limit (word_lists before.now after.now) (areas directory.old times.old inertial.old fanins.old values.old) }
+    ensures { outcome (on_paper result) (areas directory.new times.new inertial.new fanins.new values.new) ≡ run_of (task_in task.entry) limit (words_in words.entry) (areas directory.old times.old inertial.old fanins.old values.old) }
 {
-    match questions(
-        file, counts, changes, directory, times, inertial, fanins, values, before, after,
-    ) {
-        Reading::Refused(n) => Planning::Refused(n),
-        Reading::Accepted { inputs, gates } => simulate(
-            file, counts, changes, limit, inputs, gates, directory, times, inertial, fanins,
-            values, before, after,
-        ),
-    }
+    let read = questions(task, directory, times, inertial, fanins, values, words)?;
+    simulate(
+        task, limit, read, directory, times, inertial, fanins, values, words,
+    )
 }
 
 // What Run asks before 13 and 22, for calls that ask more before they run. It answers what the reader does.
 pub fn questions(
-    file: &[u8],
-    counts: &[u8],
-    changes: &[Tick],
+    task: Task,
     directory: &[u16],
     times: &[Tick],
     inertial: &[u16],
     fanins: &[u16],
     values: &[u64],
-    before: &[u64],
-    after: &[u64],
+    words: Words,
 ) -> Reading
-    ensures { reader.on_paper result ≡ questions_of (task_of file.now counts.now changes.now) (lengths_of (word_lists before.now after.now)) (areas directory.now times.now inertial.now fanins.now values.now) }
+    ensures { on_paper result ≡ questions_of (task_in task.entry) (lengths_of (words_in words.entry)) (areas directory.now times.now inertial.now fanins.now values.now) }
 {
-    match circuit::read(file) {
-        Reading::Refused(n) => Reading::Refused(n),
-        Reading::Accepted { inputs, gates } => {
-            let fault = own_fault(
-                inputs, counts, changes, directory, times, inertial, fanins, values, before, after,
-            );
-            if fault != 0 {
-                return Reading::Refused(fault);
-            }
-            Reading::Accepted { inputs, gates }
-        }
-    }
+    let read = circuit::read(task.file)?;
+    ask_own(
+        read.inputs,
+        task.counts,
+        task.changes,
+        directory,
+        times,
+        inertial,
+        fanins,
+        values,
+        words,
+    )?;
+    Ok(read)
 }

@@ -1,4 +1,4 @@
--- The words of the inputs, written input by input; and the places of a gate's fan-ins, gathered one a turn.
+-- The words of the inputs, written input by input.
 -- Assumes nothing.
 use Prim.Native.Nat.{ℕ, suc, ◌+◌, ◌≤◌, ◌<◌}
 use mathlib.Core.Path.{◌≡◌, refl, sym, ap, ap₂, ◌∙◌}
@@ -6,9 +6,8 @@ use mathlib.Core.List.{List, ◌∷◌, ◌++◌, flatten}
 use native.Mathlib.Omega.{arith}
 use native.Mathlib.Numerals.{add-one}
 use lib.ListN.{length, get_or, take, set}
-use lib.Seq.{sets, get_or-set_same, get_or-set_other}
+use lib.Seq.{sets}
 use Rattle.lists.specs.Tables.{tabulate_from}
-use Rattle.lists.proofs.Choices.{less, same, more, tri}
 use Rattle.lists.proofs.Tabled.{from_length, from_at}
 use Rattle.lists.proofs.Flat.{flat_next}
 use Rattle.lists.proofs.Storing as S
@@ -54,14 +53,3 @@ module _ (counts : List ℕ) (w : WordLists) where
       (take_stored v row (i + start) (omega arith)
       ∙ ap₂ (λ (x y : List ℕ). x ++ y) e (ap (λ (n : ℕ). get_or w.before i 0 ∷ after_words w.after n (get_or counts i 0)) s)
       ∙ sym (flat_next (λ (i : ℕ). get_or w.before i 0 ∷ after_words w.after (start_of counts i) (get_or counts i 0)) i))
-
--- ---- the bases
-
--- one entry more of an array that agrees with f so far
-pub agrees_more : (f : ℕ → ℕ) (xs : List ℕ) (e x : ℕ) → e < length xs → x ≡ f e → ((i : ℕ) → i < e → get_or xs i 0 ≡ f i) → (i : ℕ) → i < e + 1 → get_or (set xs e x) i 0 ≡ f i
-agrees_more f xs e x h q k i l =
-    elim (tri i e) [
-      | less z ↦ get_or-set_other xs e i x 0 (λ r. omega arith) ∙ k i z
-      | same z ↦ rw z (get_or-set_same xs e x 0 h ∙ q)
-      | more z ↦ absurd (omega arith)
-    ]

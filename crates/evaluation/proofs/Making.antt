@@ -8,6 +8,7 @@ use mathlib.Core.List.{List, [], ◌∷◌, ◌++◌, map, map-map}
 use native.Mathlib.Omega.{arith}
 use lib.Dec.{lit<}
 use lib.ListN.{length, get_or, length-map}
+use Rattle.std.specs.Prelude.{if◌then◌else◌}
 use lib.Bits.{bit_and, bit_or, bit_xor, and_lt, or_lt, xor_lt, xor_zero_r}
 use borrow.Author.Tests.{eqb-true}
 use Rattle.lists.specs.Tables.{every, some}
@@ -18,7 +19,7 @@ use Rattle.method.specs.Words.{lanes, lane}
 use Rattle.method.proofs.Parity.{odd_one, odd_snoc}
 use Rattle.method.proofs.Bits.{and_lane, or_lane, xor_lane, not_lane, zero_lane, pack_is}
 use Rattle.evaluation.specs.declared.rows.Rule.{Rule}
-use Rattle.evaluation.specs.Steps.{SomeOf, OddOf, gate_word, mask, turned, parity, flipped, rule_of}
+use Rattle.evaluation.specs.Steps.{SomeOf, OddOf, gate_word, joined, mask, turned, parity, flipped, rule_of}
 use Rattle.lists.proofs.Tabled.{map_snoc, some_snoc}
 
 abbrev xor : Bool → Bool → Bool
@@ -54,6 +55,24 @@ odd_more {word} {ws} t w =
 
 pub odd_pair : (x y : ℕ) → OddOf (x ∷ y ∷ []) (bit_xor x y)
 odd_pair x y = odd_more {word = x} {ws = x ∷ []} (record { is = λ L. sym (odd_one (lane L x)) }) y
+
+-- ---- either, as a rule asks
+
+abbrev pub Asked : Bool → ℕ → List ℕ → ℕ → Type 0
+Asked true turn ws word = OddOf ws word
+Asked false turn ws word = SomeOf turn ws word
+
+pub asked_none : (parity : Bool) (turn : ℕ) → Asked parity turn [] 0
+asked_none true turn = odd_none
+asked_none false turn = some_none turn
+
+-- an entry more
+pub asked_more : (r : Rule) (ws : List ℕ) (word w : ℕ) {next : ℕ} → Asked r.parity r.turn ws word → next ≡ joined r word w → Asked r.parity r.turn (ws ++ (w ∷ [])) next
+asked_more r ws word w t e = rw e (go r.parity t)
+  where
+    go : (p : Bool) → Asked p r.turn ws word → Asked p r.turn (ws ++ (w ∷ [])) (if p then bit_xor word w else bit_or word (bit_xor w r.turn))
+    go true t = odd_more t w
+    go false t = some_more t w
 
 -- ---- what a kind makes of them, on bits
 
@@ -160,6 +179,13 @@ module _ (r : Rule) (is : r ≡ rule_of r.kind) where
 
   pub made_odd : r.parity ≡ true → {ws : List ℕ} {word : ℕ} → OddOf ws word → word < 2 ^ lanes → bit_xor word r.flip ≡ gate_word r.kind ws
   made_odd x {ws} {word} t h = made ws word h (λ L l. rw (t.is L) (by_odd r.kind (map (lane L) ws) (sym parity_is ∙ x)))
+
+  pub made_asked : (ws : List ℕ) (word : ℕ) → Asked r.parity r.turn ws word → takes r.kind (length ws) ≡ true → word < 2 ^ lanes → bit_xor word r.flip ≡ gate_word r.kind ws
+  made_asked ws word t e h = go r.parity refl t
+    where
+      go : (p : Bool) → r.parity ≡ p → Asked p r.turn ws word → bit_xor word r.flip ≡ gate_word r.kind ws
+      go true x t = made_odd x t h
+      go false x t = made_some x t e h
 
   -- two entries, none turned
   pub made_either : r.parity ≡ false → r.turn ≡ 0 → (x y : ℕ) → x < 2 ^ lanes → y < 2 ^ lanes → takes r.kind 2 ≡ true → bit_xor (bit_or x y) r.flip ≡ gate_word r.kind (x ∷ y ∷ [])

@@ -1,5 +1,5 @@
 -- What evaluation's functions ask of each other and promise. A reader of Run's promise may skip this file.
-use Rattle.std.specs.Prelude.{ℕ, ◌+◌, ◌*◌, ◌<◌, ◌≤◌, ◌≡◌, Bool, true, false, not, length, get_or, take}
+use Rattle.std.specs.Prelude.{ℕ, ◌+◌, ◌*◌, ◌^◌, ◌<◌, ◌≤◌, ◌≡◌, Bool, true, false, not, if◌then◌else◌, length, get_or, take, bit_or, bit_xor}
 use Rattle.std.specs.Bool.{beq}
 use mathlib.Core.List.{List, ◌∷◌, map, flatten}
 use Rattle.lists.specs.Ladder.{accepted}
@@ -72,6 +72,14 @@ pub record SomeOf (turn : ℕ) (words : List ℕ) (r : ℕ) : Type 0 where
 -- r has the lanes in which an odd number of these words are 1
 pub record OddOf (words : List ℕ) (r : ℕ) : Type 0 where
   pub is : (L : ℕ) → lane L r ≡ odd (ones (map (lane L) words))
+
+-- what a rule makes of the word of the entries so far and one entry more
+abbrev pub joined : Rule → ℕ → ℕ → ℕ
+joined r word entry = if r.parity then bit_xor word entry else bit_or word (bit_xor entry r.turn)
+
+-- what is called with two words gives that
+abbrev pub Joins : Rule → (ℕ → ℕ → ℕ → Type 0) → Type 0
+Joins rule gives = (word entry r : ℕ) → word < 2 ^ lanes → entry < 2 ^ lanes → gives word entry r → r ≡ joined rule word entry
 
 -- where entry e of the fan-in row at `at` points to, if the fan-ins' frames start at these bases; and the word there
 abbrev pub target : List ℕ → List ℕ → ℕ → ℕ → ℕ

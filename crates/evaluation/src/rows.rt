@@ -1,12 +1,10 @@
 // The raw words of a gate's frames: 64 lanes at once.
-ghost use Rattle.std.specs.Prelude.{◌≡◌, true, false, [], ◌∷◌, ◌+◌, length, get_or};
+ghost use Rattle.std.specs.Prelude.{◌≡◌, true, [], ◌∷◌, ◌+◌, length, get_or};
 ghost use Rattle.std.proofs.lemmas.List.Edits.{sets};
 ghost use Rattle.method.specs.Kinds.{takes};
-ghost use Rattle.evaluation.specs.Steps.{OddOf, Points, Raw, Row, SomeOf, flipped, gate_word, mask, parity, raw_words, rule_of, sources, turned};
+ghost use Rattle.evaluation.specs.Steps.{Joins, Points, Raw, Row, flipped, gate_word, mask, parity, raw_words, rule_of, sources, turned};
 
 use method::Kind;
-
-const ALL: u64 = 18446744073709551615;
 
 // How a kind works on words: the lanes in which an odd number of entries are 1, or else those in which some entry is, each
 // turned first; then the result flipped. To turn or flip is all lanes or none, so that eight kinds need two ways. The kind
@@ -33,20 +31,12 @@ pub(crate) fn rule_of(kind: Kind) -> Rule
     }
 }
 
-// Whether an odd number of entries has to be 1. A table for each of the three: one for all makes a jump that is guessed wrong.
+// Whether an odd number of entries has to be 1. A question for each of the three: one `match` for all makes a jump that is guessed
+// wrong.
 fn is_parity(kind: Kind) -> bool
     ensures { result ≡ parity kind }
 {
-    match kind {
-        Kind::Buf => false,
-        Kind::Not => false,
-        Kind::And => false,
-        Kind::Nand => false,
-        Kind::Or => false,
-        Kind::Nor => false,
-        Kind::Xor => true,
-        Kind::Xnor => true,
-    }
+    matches!(kind, Kind::Xor | Kind::Xnor)
 }
 
 // AND and NAND ask whether some entry, turned, is 1: whether some entry is 0.
@@ -54,14 +44,8 @@ fn turn_of(kind: Kind) -> u64
     ensures { result ≡ mask (turned kind) }
 {
     match kind {
-        Kind::Buf => 0,
-        Kind::Not => 0,
-        Kind::And => ALL,
-        Kind::Nand => ALL,
-        Kind::Or => 0,
-        Kind::Nor => 0,
-        Kind::Xor => 0,
-        Kind::Xnor => 0,
+        Kind::And | Kind::Nand => u64::MAX,
+        Kind::Buf | Kind::Not | Kind::Or | Kind::Nor | Kind::Xor | Kind::Xnor => 0,
     }
 }
 
@@ -70,14 +54,8 @@ fn flip_of(kind: Kind) -> u64
     ensures { result ≡ mask (flipped kind) }
 {
     match kind {
-        Kind::Buf => 0,
-        Kind::Not => ALL,
-        Kind::And => ALL,
-        Kind::Nand => 0,
-        Kind::Or => 0,
-        Kind::Nor => ALL,
-        Kind::Xor => 0,
-        Kind::Xnor => ALL,
+        Kind::Not | Kind::And | Kind::Nor | Kind::Xnor => u64::MAX,
+        Kind::Buf | Kind::Nand | Kind::Or | Kind::Xor => 0,
     }
 }
 
@@ -96,13 +74,11 @@ pub(crate) fn pair_rows(
     ensures { values.new ≡ sets values.old first (raw_words values.old (x ∷ y ∷ []) fanins.now rule.kind 2 at frames) }
 {
     let mut row = at;
-    let mut k = 0;
-    while k < frames {
+    for k in 0..frames {
         let a = source(values, x, fanins, row);
         let b = source(values, y, fanins, row + 1);
         values[first + k] = pair_word(rule, a, b);
         row += 2;
-        k += 1;
     }
 }
 
@@ -137,15 +113,20 @@ pub(crate) fn wide_rows(
     requires { Raw (length values.old) bases.now fanins.now rule.kind at entries first frames × (rule ≡ rule_of rule.kind) }
     ensures { values.new ≡ sets values.old first (raw_words values.old bases.now fanins.now rule.kind entries at frames) }
 {
+    let turn = rule.turn;
     if rule.parity {
-        odd_rows(values, first, frames, bases, fanins, at, entries, rule);
+        let odd = |word: u64, entry: u64| word ^ entry;
+        joined_rows(values, first, frames, bases, fanins, at, entries, rule, odd);
         return;
     }
-    some_rows(values, first, frames, bases, fanins, at, entries, rule);
+    let some = |word: u64, entry: u64| word | (entry ^ turn);
+    joined_rows(
+        values, first, frames, bases, fanins, at, entries, rule, some,
+    );
 }
 
-// The words where some entry has to be 1.
-fn some_rows(
+// The words of a gate whose rule puts entries together as `join` does. It is compiled once for each way to join.
+fn joined_rows<F: Fn(u64, u64) -> u64>(
     values: &mut [u64],
     first: usize,
     frames: usize,
@@ -154,75 +135,40 @@ fn some_rows(
     at: usize,
     entries: usize,
     rule: Rule,
+    join: F,
 )
-    requires { Raw (length values.old) bases.now fanins.now rule.kind at entries first frames × (rule ≡ rule_of rule.kind) × (rule.parity ≡ false) }
+    requires raw { Raw (length values.old) bases.now fanins.now rule.kind at entries first frames × (rule ≡ rule_of rule.kind) }
+    requires callable { F.IsAlwaysCallable join }
+    requires joins { Joins rule (F.post join) }
     ensures { values.new ≡ sets values.old first (raw_words values.old bases.now fanins.now rule.kind entries at frames) }
 {
     let mut row = at;
-    let mut k = 0;
-    while k < frames {
-        values[first + k] = some_of(values, bases, fanins, row, entries, rule.turn) ^ rule.flip;
+    for k in 0..frames {
+        values[first + k] = row_word(values, bases, fanins, row, entries, rule, &join);
         row += entries;
-        k += 1;
     }
 }
 
-// The words where an odd number of entries has to be 1.
-fn odd_rows(
-    values: &mut [u64],
-    first: usize,
-    frames: usize,
-    bases: &[usize; 8],
-    fanins: &[u16],
-    at: usize,
-    entries: usize,
-    rule: Rule,
-)
-    requires { Raw (length values.old) bases.now fanins.now rule.kind at entries first frames × (rule ≡ rule_of rule.kind) × (rule.parity ≡ true) }
-    ensures { values.new ≡ sets values.old first (raw_words values.old bases.now fanins.now rule.kind entries at frames) }
-{
-    let mut row = at;
-    let mut k = 0;
-    while k < frames {
-        values[first + k] = odd_of(values, bases, fanins, row, entries) ^ rule.flip;
-        row += entries;
-        k += 1;
-    }
-}
-
-// The lanes in which some entry of the row is 1, each turned.
-fn some_of(
+// The raw word of a frame from its row: the entries put together by `join`, then flipped.
+fn row_word<F: Fn(u64, u64) -> u64>(
     values: &[u64],
     bases: &[usize; 8],
     fanins: &[u16],
     at: usize,
     entries: usize,
-    turn: u64,
+    rule: Rule,
+    join: &F,
 ) -> u64
-    requires { Row (length values.now) bases.now fanins.now at entries }
-    ensures { SomeOf turn (sources values.now bases.now fanins.now at entries) result }
+    requires row { Row (length values.now) bases.now fanins.now at entries × (takes rule.kind entries ≡ true) × (rule ≡ rule_of rule.kind) }
+    requires callable { F.IsAlwaysCallable join.now }
+    requires joins { Joins rule (F.post join.now) }
+    ensures { result ≡ gate_word rule.kind (sources values.now bases.now fanins.now at entries) }
 {
     let mut word: u64 = 0;
-    let mut e = 0;
-    while e < entries {
-        word = word | (source(values, bases[e], fanins, at + e) ^ turn);
-        e += 1;
+    for e in 0..entries {
+        word = join(word, source(values, bases[e], fanins, at + e));
     }
-    word
-}
-
-// The lanes in which an odd number of entries of the row are 1.
-fn odd_of(values: &[u64], bases: &[usize; 8], fanins: &[u16], at: usize, entries: usize) -> u64
-    requires { Row (length values.now) bases.now fanins.now at entries }
-    ensures { OddOf (sources values.now bases.now fanins.now at entries) result }
-{
-    let mut word: u64 = 0;
-    let mut e = 0;
-    while e < entries {
-        word = word ^ source(values, bases[e], fanins, at + e);
-        e += 1;
-    }
-    word
+    word ^ rule.flip
 }
 
 // The word that the entry at this place of the fan-in area points to, for a fan-in whose frames start at `base`.

@@ -16,12 +16,12 @@ use Rattle.lists.proofs.Choices.{order, and_left, and_right}
 use Rattle.method.specs.Words.{lanes, lane}
 use Rattle.method.specs.Layout.{part_of}
 use Rattle.method.specs.declared.Time.{Time}
-use Rattle.looks.specs.declared.Until.TheVariants as U
 use Rattle.looks.specs.declared.Sight as code
 use Rattle.looks.specs.Sight.{sight_at, end_on_paper, sight_on_paper}
 use Rattle.expectations.specs.declared.Expectation.{Expectation}
 use Rattle.expectations.specs.Suits.{suits, list_suits}
 use Rattle.expectations.specs.Steps.{no_circuit, nets_for, nets_needed, broken_by, breaks_at}
+use Rattle.std.specs.Prelude.{Some, None}
 
 -- ---- how many nets a circuit must have for a list of expectations
 
@@ -92,11 +92,11 @@ module _ (d t v : List ℕ) (e : Expectation) (k : ℕ) {ts vs : List ℕ} (p : 
 
     module _ (h : seen.began.0 ≤ e.to.0) where
       -- the next begins after the span's start, or not
-      pub breaks_next : {next : Time} → seen.until ≡ U.Next next → ltb e.from.0 next.0 ≡ breaks_at d t v e k
+      pub breaks_next : {next : Time} → seen.until ≡ Some next → ltb e.from.0 next.0 ≡ breaks_at d t v e k
       unfolding broken_by sight_on_paper end_on_paper
       breaks_next u = rw (← by_sight, n, le-leb seen.began.0 e.to.0 h, u)
 
       -- it has no end
-      pub breaks_never : seen.until ≡ U.NoEnd → true ≡ breaks_at d t v e k
+      pub breaks_never : seen.until ≡ None → true ≡ breaks_at d t v e k
       unfolding broken_by sight_on_paper end_on_paper
       breaks_never u = rw (← by_sight, n, le-leb seen.began.0 e.to.0 h, u)

@@ -2,8 +2,9 @@
 use Prim.Native.Nat.{ℕ, suc, ◌+◌, ◌-◌, ◌≤◌, ◌<◌, max}
 use mathlib.Core.Path.{◌≡◌, refl, sym, ap, ◌∙◌}
 use mathlib.Core.Bool.{Bool, true, false, cond}
-use mathlib.Core.List.{List, ◌∷◌}
-use native.Mathlib.Nat.{zero-max, max-zero}
+use mathlib.Core.List.{List, [], ◌∷◌}
+use Rattle.std.specs.List.{fold}
+use native.Mathlib.Nat.{max-zero}
 use native.Mathlib.Numerals.{add-one}
 use native.Mathlib.Omega.{arith}
 use lib.ListN.{length, get_or, drop}
@@ -12,33 +13,20 @@ use Rattle.lists.specs.Ladder.{accepted}
 use Rattle.method.specs.Layout.{frame_count}
 use Rattle.method.specs.declared.Frame.{Frame}
 use Rattle.expectations.specs.declared.Expectation.{Expectation}
-use Rattle.expectations.specs.declared.Marking.TheVariants as M
-use Rattle.expectations.specs.Verdict.{Verdict, all_met, place, on_paper}
+use Rattle.expectations.specs.Verdict.{Verdict, all_met, place, verdict_on_paper}
 use Rattle.expectations.specs.Steps.{nets_for, nets_needed, breaks_at, searched_frames, searched_from}
+use Rattle.std.specs.Prelude.{Some, None}
 
 -- what a read past the end of a list of expectations gives. No read goes there
 abbrev pub nought : Expectation
 nought = record { net = record { 0 = 0 }; lane = 0; from = record { 0 = 0 }; to = record { 0 = 0 }; level = 0 }
 
--- ---- the nets that the list needs: those of the expectations before position i, and of the rest
+-- ---- the nets that the list needs
 
-module _ (list : List Expectation) where
-  abbrev pub needed_from : ℕ → ℕ → ℕ
-  needed_from nets i = max nets (nets_needed (drop i list))
-
-  pub needed_start : needed_from 0 0 ≡ nets_needed list
-  needed_start = zero-max (nets_needed list)
-
-  pub needed_end : (nets i : ℕ) → i ≡ length list → needed_from nets i ≡ nets
-  unfolding nets_needed
-  needed_end nets i e = ap (needed_from nets) e ∙ ap (λ (rest : List Expectation). max nets (nets_needed rest)) (drop-length list) ∙ max-zero nets
-
-  pub needed_on : (nets i : ℕ) → i < length list → {m : ℕ} → m ≡ max nets (nets_for (get_or list i nought)) → needed_from m (i + 1) ≡ needed_from nets i
-  unfolding nets_needed
-  needed_on nets i l e =
-      ap (λ (n : ℕ). needed_from n (i + 1)) e
-      ∙ (let q : max (max nets (nets_for (get_or list i nought))) (nets_needed (drop (i + 1) list)) ≡ max nets (max (nets_for (get_or list i nought)) (nets_needed (drop (i + 1) list))) = omega arith in q)
-      ∙ sym (ap (λ (rest : List Expectation). max nets (nets_needed rest)) (drop-cons list i nought l ∙ ap (λ (j : ℕ). get_or list i nought ∷ drop j list) (sym (add-one i))))
+pub needed_by_fold : (nets : ℕ) (list : List Expectation) → fold (λ (n : ℕ) (e : Expectation). max n (nets_for e)) nets list ≡ max nets (nets_needed list)
+unfolding nets_needed
+needed_by_fold nets [] = sym (max-zero nets)
+needed_by_fold nets (e ∷ list) = needed_by_fold (max nets (nets_for e)) list ∙ (let q : max (max nets (nets_for e)) (nets_needed list) ≡ max nets (max (nets_for e) (nets_needed list)) = omega arith in q)
 
 -- ---- the search, from position i on
 
@@ -83,10 +71,10 @@ module _ (d t v : List ℕ) (list : List Expectation) where
     pub frame_holds : r ≡ false → from_frame i m (k + 1) ≡ from_frame i m k
     frame_holds n = sym (by_frame ∙ ap (λ (s : Bool). cond s (place i k) (from_frame i m (k + 1))) n)
 
-pub all_met_lem : on_paper M.AllMet ≡ accepted all_met
-unfolding on_paper
+pub all_met_lem : verdict_on_paper None ≡ all_met
+unfolding verdict_on_paper
 all_met_lem = refl
 
-pub unmet : (i : ℕ) (frame : Frame) → on_paper (M.Unmet i frame) ≡ accepted (place i frame.0)
-unfolding on_paper
+pub unmet : (i : ℕ) (frame : Frame) → verdict_on_paper (Some (record { position = i; frame = frame })) ≡ place i frame.0
+unfolding verdict_on_paper
 unmet i frame = refl

@@ -1,10 +1,11 @@
 -- Marking: the first expectation that is not met, with the first frame in its span that breaks it.
-use Rattle.std.specs.Prelude.{ℕ, suc, Bool, not, cond, ◌&&◌, List, [], ◌∷◌, ltb, leb, eqb}
+use Rattle.std.specs.Prelude.{ℕ, suc, Bool, not, cond, ◌&&◌, List, [], ◌∷◌, ltb, leb, eqb, Option, Some, None, Result, Ok, Err}
 use Rattle.std.specs.Bool.{beq}
 use Rattle.lists.specs.Ladder.{Answer, accepted, refused}
 use Rattle.expectations.specs.declared.Expectation.{Expectation}
-use Rattle.expectations.specs.declared.Marking.{Marking}
-use Rattle.expectations.specs.declared.Marking.TheVariants as M
+use Rattle.method.specs.declared.Refusal.{Refusal}
+use Rattle.method.specs.Refusals.{number_of}
+use Rattle.expectations.specs.declared.Unmet.{Unmet}
 
 -- all met, or the place: the expectation's position in the list, from 0, and the frame's number
 pub data Verdict : Type 0 where
@@ -38,8 +39,12 @@ verdict_from times levels i [] = all_met
 verdict_from times levels i (e ∷ list) =
     first_break e i 0 (times e.net.0) (levels e.lane e.net.0) (verdict_from times levels (suc i) list)
 
--- a `Marking` in the paper's terms: all met, the place, or the number alone
-unfoldable pub on_paper : Marking → Answer Verdict
-on_paper M.AllMet = accepted all_met
-on_paper (M.Unmet i k) = accepted (place i k.0)
-on_paper (M.Refused n) = refused n
+-- what the search finds in the paper's terms: all met, or the place
+unfoldable pub verdict_on_paper : Option Unmet → Verdict
+verdict_on_paper None = all_met
+verdict_on_paper (Some u) = place u.position u.frame.0
+
+-- Mark's result in the paper's terms: all met, the place, or the number alone
+unfoldable pub on_paper : Result (Option Unmet) Refusal → Answer Verdict
+on_paper (Ok v) = accepted (verdict_on_paper v)
+on_paper (Err r) = refused (number_of r)

@@ -4,7 +4,7 @@
 pub mod needs;
 pub mod search;
 
-use method::{Frame, Net, Time};
+use method::{Frame, Net, Refusal, Time};
 
 // What a marker expects: on this net, in this lane, this level (0 or 1) at every time from `from` to `to`, both included.
 #[derive(Clone, Copy)]
@@ -16,11 +16,12 @@ pub struct Expectation {
     pub level: u8,
 }
 
-// What Mark answers: all met; or the position of the first expectation that is not, from 0, with the first frame that
-// breaks it; or the number of the first "no".
+// An expectation that is not met: its position in the list, from 0, and the first frame that breaks it.
 #[derive(Clone, Copy)]
-pub enum Marking {
-    AllMet,
-    Unmet(usize, Frame),
-    Refused(u8),
+pub struct Unmet {
+    pub position: usize,
+    pub frame: Frame,
 }
+
+// What Mark answers: the first expectation that is not met, or none where all are; or the first "no".
+pub type Marking = Result<Option<Unmet>, Refusal>;

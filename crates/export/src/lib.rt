@@ -17,8 +17,9 @@ ghost use Rattle.sizes.specs.Fitted.{fitted_of};
 ghost use Rattle.answers.specs.Numbers.{numbers, numbered, in_numbers, outcome_in, net_numbers, total_numbers, sight_numbers, one_number};
 ghost use Rattle.export.specs.Marked.{mark_in};
 
-use answers::{give_changes, give_length, give_nets, give_sight, give_totals, give_verdict};
-use method::{Tick, Time};
+use answers::give;
+use circuit::Task;
+use method::{Tick, Time, Words};
 use records::{RECORD_LENGTH, mark_first, records_of, records_suit};
 
 // The bytes of the expectations are no whole number of records, or more than there is room for.
@@ -28,7 +29,7 @@ const NO_RECORDS: u32 = 100;
 pub fn mazh_read(file: &[u8], nets: &mut [u32; 2]) -> u32
     ensures { numbers result nets.new ≡ in_numbers net_numbers nets.old (read_of file.now) }
 {
-    give_nets(circuit::read(file), nets)
+    give(circuit::read(file), nets)
 }
 
 // Plan: the frames, the fan-in entries and the last potential time.
@@ -45,10 +46,13 @@ pub fn mazh_plan(
 ) -> u32
     ensures { numbered (numbers result totals.new) (planned directory.new times.new inertial.new fanins.new) ≡ outcome_in total_numbers totals.old (plan_of (task_of file.now counts.now changes.now) limit (planned directory.old times.old inertial.old fanins.old)) }
 {
-    let answer = planner::plan(
-        file, counts, changes, limit, directory, times, inertial, fanins,
-    );
-    give_totals(answer, totals)
+    let task = Task {
+        file,
+        counts,
+        changes,
+    };
+    let answer = planner::plan(task, limit, directory, times, inertial, fanins);
+    give(answer, totals)
 }
 
 // Run: the totals of Plan.
@@ -68,10 +72,16 @@ pub fn mazh_run(
 ) -> u32
     ensures { numbered (numbers result totals.new) (areas directory.new times.new inertial.new fanins.new values.new) ≡ outcome_in total_numbers totals.old (run_of (task_of file.now counts.now changes.now) limit (word_lists before.now after.now) (areas directory.old times.old inertial.old fanins.old values.old)) }
 {
+    let task = Task {
+        file,
+        counts,
+        changes,
+    };
+    let words = Words { before, after };
     let answer = engine::run(
-        file, counts, changes, limit, directory, times, inertial, fanins, values, before, after,
+        task, limit, directory, times, inertial, fanins, values, words,
     );
-    give_totals(answer, totals)
+    give(answer, totals)
 }
 
 // Size: the totals of Plan.
@@ -84,7 +94,12 @@ pub fn mazh_size(
 ) -> u32
     ensures { numbers result totals.new ≡ in_numbers total_numbers totals.old (size_of (task_of file.now counts.now changes.now) limit) }
 {
-    give_totals(sizes::size(file, counts, changes, limit), totals)
+    let task = Task {
+        file,
+        counts,
+        changes,
+    };
+    give(sizes::size(task, limit), totals)
 }
 
 // The fitted Run: the totals of Plan.
@@ -104,83 +119,92 @@ pub fn mazh_run_fitted(
 ) -> u32
     ensures { numbered (numbers result totals.new) (areas directory.new times.new inertial.new fanins.new values.new) ≡ outcome_in total_numbers totals.old (fitted_of (task_of file.now counts.now changes.now) limit (word_lists before.now after.now) (areas directory.old times.old inertial.old fanins.old values.old)) }
 {
+    let task = Task {
+        file,
+        counts,
+        changes,
+    };
+    let words = Words { before, after };
     let answer = sizes::run_fitted(
-        file, counts, changes, limit, directory, times, inertial, fanins, values, before, after,
+        task, limit, directory, times, inertial, fanins, values, words,
     );
-    give_totals(answer, totals)
+    give(answer, totals)
 }
 
 // Level: the level, the frame's begin and its end, which is 0 where it has none.
 pub fn mazh_level(times: &[Tick], values: &[u64], lane: u8, time: Tick, sight: &mut [u32; 3]) -> u32
     ensures { numbers result sight.new ≡ in_numbers sight_numbers sight.old (level_of times.now values.now lane time) }
 {
-    give_sight(looks::level(times, values, lane, Time(time)), sight)
+    give(looks::level(times, values, lane, Time(time)), sight)
 }
 
 // Count: how many changes.
 pub fn mazh_count(times: &[Tick], values: &[u64], lane: u8, changes: &mut [u32; 1]) -> u32
     ensures { numbers result changes.new ≡ in_numbers one_number changes.old (count_of times.now values.now lane) }
 {
-    give_changes(looks::count(times, values, lane), changes)
+    give(looks::count(times, values, lane), changes)
 }
 
 // From the former edition of the circuit file to the present one: the length of the file written.
 pub fn mazh_newer(file: &[u8], area: &mut [u8], length: &mut [u32; 1]) -> u32
     ensures { numbered (numbers result length.new) area.new ≡ outcome_in one_number length.old (newer_of file.now area.old) }
 {
-    give_length(converter::newer(file, area), length)
+    give(converter::newer(file, area), length)
 }
 
 // From the present edition to the former one.
 pub fn mazh_older(file: &[u8], area: &mut [u8], length: &mut [u32; 1]) -> u32
     ensures { numbered (numbers result length.new) area.new ≡ outcome_in one_number length.old (older_of file.now area.old) }
 {
-    give_length(converter::older(file, area), length)
+    give(converter::older(file, area), length)
 }
 
 // From the file's own edition to the other.
 pub fn mazh_other(file: &[u8], area: &mut [u8], length: &mut [u32; 1]) -> u32
     ensures { numbered (numbers result length.new) area.new ≡ outcome_in one_number length.old (other_of file.now area.old) }
 {
-    give_length(converter::other(file, area), length)
+    give(converter::other(file, area), length)
 }
 
 // Mark, with the expectations as bytes: 1 where all are met; else 0, the position and the frame of the first that is not.
-pub fn mazh_mark<'a>(
-    file: &'a [u8],
-    counts: &'a [u8],
-    changes: &'a [Tick],
+pub fn mazh_mark(
+    file: &[u8],
+    counts: &[u8],
+    changes: &[Tick],
     limit: u16,
-    directory: &'a mut [u16],
-    times: &'a mut [Tick],
-    inertial: &'a mut [u16],
-    fanins: &'a mut [u16],
-    values: &'a mut [u64],
-    before: &'a [u64],
-    after: &'a [u64],
+    directory: &mut [u16],
+    times: &mut [Tick],
+    inertial: &mut [u16],
+    fanins: &mut [u16],
+    values: &mut [u64],
+    before: &[u64],
+    after: &[u64],
     expectations: &[u8],
     verdict: &mut [u64; 3],
 ) -> u32
     ensures { numbered (numbers result verdict.new) (areas directory.new times.new inertial.new fanins.new values.new) ≡ mark_in verdict.old (task_of file.now counts.now changes.now) limit (word_lists before.now after.now) (areas directory.old times.old inertial.old fanins.old values.old) expectations.now }
 {
+    let task = Task {
+        file,
+        counts,
+        changes,
+    };
+    let words = Words { before, after };
     if !records_suit(expectations) {
         return NO_RECORDS;
     }
     let count = expectations.len() / RECORD_LENGTH;
     let answer = mark_first(
-        file,
-        counts,
-        changes,
+        task,
         limit,
         directory,
         times,
         inertial,
         fanins,
         values,
-        before,
-        after,
+        words,
         records_of(expectations, count),
         count,
     );
-    give_verdict(answer, verdict)
+    give(answer, verdict)
 }

@@ -162,18 +162,18 @@ pub extern "C" fn mazh_other(file: &[u8], area: &mut [u8], length: &mut [u32; 1]
 
 // Mark, with the expectations as bytes: 1 where all are met; else 0, the position and the frame of the first that is not.
 #[unsafe(no_mangle)]
-pub extern "C" fn mazh_mark<'a>(
-    file: &'a [u8],
-    counts: &'a [u8],
-    changes: &'a [Tick],
+pub extern "C" fn mazh_mark(
+    file: &[u8],
+    counts: &[u8],
+    changes: &[Tick],
     limit: u16,
-    directory: &'a mut [u16],
-    times: &'a mut [Tick],
-    inertial: &'a mut [u16],
-    fanins: &'a mut [u16],
-    values: &'a mut [u64],
-    before: &'a [u64],
-    after: &'a [u64],
+    directory: &mut [u16],
+    times: &mut [Tick],
+    inertial: &mut [u16],
+    fanins: &mut [u16],
+    values: &mut [u64],
+    before: &[u64],
+    after: &[u64],
     expectations: &[u8],
     verdict: &mut [u64; 3],
 ) -> u32

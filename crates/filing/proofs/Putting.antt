@@ -1,18 +1,21 @@
 -- Bytes stored one part behind the other.
 -- Assumes nothing.
 use Prim.Native.Nat.{ℕ, ◌+◌, ◌/◌, ◌%◌, ◌<◌, ◌≤◌}
-use mathlib.Core.Path.{◌≡◌, refl, sym, ap, ◌∙◌}
+use mathlib.Core.Path.{◌≡◌, sym, ap, ◌∙◌}
 use mathlib.Core.Bool.{true, false}
 use mathlib.Core.List.{List, [], ◌++◌}
+use native.Mathlib.Omega.{arith}
 use native.Mathlib.Numerals.{add-one}
-use lib.ListN.{length, set}
+use Rattle.std.specs.Int.{w16, to_le_bytes}
+use lib.ListN.{length, get_or, set}
 use lib.Seq.{sets, length-sets}
 use Rattle.lists.proofs.Storing.{sets_out, sets_append}
 use Rattle.method.specs.declared.Kind.{Kind}
 use Rattle.editions.specs.declared.Edition.{Edition}
 use Rattle.editions.specs.Edition.{delay_bytes}
 use Rattle.editions.specs.Limits.{delay_range}
-use Rattle.editions.specs.Encode.{two_bytes, kind_number, encode_delay, encode_head}
+use Rattle.editions.specs.Encode.{two_bytes, encode_delay, encode_head}
+use Rattle.method.specs.Kinds.{kind_number}
 use Rattle.editions.proofs.Bytewise.{two_length}
 use Rattle.editions.proofs.Written.{delay_length}
 
@@ -20,9 +23,6 @@ use Rattle.editions.proofs.Written.{delay_length}
 pub record Storing (area₀ : List ℕ) (at : ℕ) (whole area : List ℕ) (p : ℕ) (rest : List ℕ) : Type 0 where
   pub same : length area ≡ length area₀
   pub is : sets area₀ at whole ≡ sets area p rest
-
-pub store_none : (area : List ℕ) (at : ℕ) (whole rest : List ℕ) → whole ≡ rest → Storing area at whole area at rest
-store_none area at whole rest e = record { same = refl; is = rw e }
 
 module _ {area₀ whole area rest : List ℕ} {at p : ℕ} (s : Storing area₀ at whole area p rest) where
   pub store_more : (xs ys : List ℕ) → rest ≡ xs ++ ys → {area' : List ℕ} → area' ≡ sets area p xs → {q : ℕ} → q ≡ p + length xs → Storing area₀ at whole area' q ys
@@ -39,9 +39,11 @@ module _ {area₀ whole area rest : List ℕ} {at p : ℕ} (s : Storing area₀ 
 pub put_both : (area : List ℕ) (at : ℕ) (xs ys : List ℕ) {area₁ area₂ : List ℕ} {q : ℕ} → area₁ ≡ sets area at xs → q ≡ at + length xs → area₂ ≡ sets area₁ q ys → area₂ ≡ sets area at (xs ++ ys)
 put_both area at xs ys e g f = f ∙ rw (e, g) (sym (sets_append area at xs ys))
 
-pub put_two : (area : List ℕ) (at n : ℕ) {area₁ area₂ : List ℕ} → area₁ ≡ set area at (n % 256) → area₂ ≡ set area₁ (at + 1) (n / 256) → area₂ ≡ sets area at (two_bytes n)
+pub put_two : (area : List ℕ) (at n : ℕ) → n < 65536 → {bytes area₁ area₂ : List ℕ} → bytes ≡ to_le_bytes w16 n → area₁ ≡ set area at (get_or bytes 0 0) → area₂ ≡ set area₁ (at + 1) (get_or bytes 1 0) → area₂ ≡ sets area at (two_bytes n)
 unfolding two_bytes
-put_two area at n e f = f ∙ rw (e, add-one at)
+put_two area at n h b e f =
+    let high : n / 256 % 256 ≡ n / 256 = omega arith in
+    f ∙ rw (e, b, high, add-one at)
 
 pub put_none : (area : List ℕ) (at n : ℕ) → length area ≤ at → area ≡ sets area at (two_bytes n)
 put_none area at n h = sym (sets_out area at (two_bytes n) h)

@@ -4,7 +4,7 @@
 ghost use Rattle.std.specs.Prelude.{◌≡◌, ◌++◌, ◌+◌, ◌<◌, set};
 ghost use Rattle.std.proofs.lemmas.List.Edits.{sets};
 ghost use Rattle.editions.specs.Limits.{delay_range};
-ghost use Rattle.editions.specs.Encode.{two_bytes, kind_number, encode_delay, encode_head};
+ghost use Rattle.editions.specs.Encode.{two_bytes, encode_delay, encode_head};
 
 use editions::{Edition, delay_bytes};
 use method::{Kind, Tick};
@@ -16,10 +16,9 @@ pub const AREA_LENGTH: usize = 4096;
 fn put_byte(area: &mut [u8], at: usize, byte: u8)
     ensures { area.new ≡ set area.old at byte }
 {
-    if area.len() <= at {
-        return;
+    if at < area.len() {
+        area[at] = byte;
     }
-    area[at] = byte;
 }
 
 // A two-byte number, the low byte first.
@@ -29,8 +28,9 @@ pub fn put_number(area: &mut [u8], at: usize, number: u16)
     if area.len() <= at {
         return;
     }
-    put_byte(area, at, (number % 256) as u8);
-    put_byte(area, at + 1, (number / 256) as u8);
+    let [low, high] = number.to_le_bytes();
+    put_byte(area, at, low);
+    put_byte(area, at + 1, high);
 }
 
 // Two numbers, one behind the other: I, as the edition holds it, and G; or a record's offset and length.
@@ -67,23 +67,7 @@ pub fn put_head(
     ensures { area.new ≡ sets area.old at (encode_head edition kind delay inertial) }
 {
     let second = at + 1 + delay_bytes(edition) as usize;
-    put_byte(area, at, kind_number(kind));
+    put_byte(area, at, u8::from(kind));
     put_delay(edition, area, at + 1, delay);
     put_delay(edition, area, second, inertial);
-}
-
-// The number of a kind.
-fn kind_number(kind: Kind) -> u8
-    ensures { result ≡ kind_number kind }
-{
-    match kind {
-        Kind::Buf => 0,
-        Kind::Not => 1,
-        Kind::And => 2,
-        Kind::Nand => 3,
-        Kind::Or => 4,
-        Kind::Nor => 5,
-        Kind::Xor => 6,
-        Kind::Xnor => 7,
-    }
 }

@@ -11,36 +11,56 @@
 // `cut` and stops, and so it does where it cannot read or write on, which standard error then says.
 #![tactic(auto)]
 
-mod circuits;
-
-use circuits::circuit_case;
 use std::io::{Eprint, Input, Print};
-use testbench::{case_of, show_cut};
+use testbench::{
+    Areas, Case, Cut, Head, end_line, read_behind, show_cut, show_planning, show_semicolon,
+    show_sums,
+};
 
-// No input has as many cases as there are turns.
 fn main(rt: HostRuntime) {
-    for _ in 0..u64::MAX {
-        if !next_case(&rt) {
-            return;
-        }
+    if show_cases(&rt).is_err() {
+        show_cut(&rt);
     }
 }
 
-// One case. False where the program stops.
-fn next_case(rt: &(impl Input + Print + Eprint)) -> bool {
-    let mut head = [0u8; 24];
-    let received = streams::read_input(rt, &mut head);
-    if received.failed {
-        show_cut(rt);
-        return false;
+// No input has as many cases as there are turns.
+fn show_cases(rt: &(impl Input + Print + Eprint)) -> Result<(), Cut> {
+    for _ in 0..u64::MAX {
+        let mut head = [0; 24];
+        let count = streams::read_input(rt, &mut head)?;
+        if count == 0 {
+            break;
+        }
+        let case = read_behind(rt, Head(head));
+        if count < 24 {
+            return Err(Cut);
+        }
+        show_case(rt, &case?)?;
     }
-    let got = received.count;
-    if got == 0 {
-        return false;
-    }
-    let shown = circuit_case(rt, case_of(rt, head, got == 24));
-    if !shown {
-        show_cut(rt);
-    }
-    shown
+    Ok(())
+}
+
+fn show_case(rt: &(impl Print + Eprint), case: &Case) -> Result<(), Cut> {
+    let limit = case.head.limit();
+    show_planning(rt, sizes::size(case.task(), limit));
+    show_semicolon(rt);
+    show_run(rt, case);
+    end_line(rt)
+}
+
+fn show_run(rt: &(impl Print + Eprint), case: &Case) {
+    let head = case.head;
+    let mut areas = Areas::rubbish(head.rubbish());
+    let answer = sizes::run_fitted(
+        case.task(),
+        head.limit(),
+        &mut areas.directory[..head.directory_length()],
+        &mut areas.times[..head.times_length()],
+        &mut areas.inertial[..head.inertial_length()],
+        &mut areas.fanins[..head.fanins_length()],
+        &mut areas.values[..head.values_length()],
+        case.words(),
+    );
+    show_planning(rt, answer);
+    show_sums(rt, head, &areas);
 }

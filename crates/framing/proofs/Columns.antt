@@ -4,7 +4,7 @@ use Prim.Native.Nat.{ℕ, suc, ◌+◌, ◌*◌, ◌≤◌, ◌<◌}
 use mathlib.Core.Path.{◌≡◌, refl, sym, ap, ap₂, ◌∙◌}
 use mathlib.Core.List.{List, [], ◌∷◌, map, flat_map}
 use native.Mathlib.Omega.{arith}
-use native.Mathlib.Nat.{add-zero, add-suc, suc-mul, mul-le-mul_right}
+use native.Mathlib.Nat.{add-zero, add-suc}
 use native.Mathlib.Numerals.{add-one}
 use lib.ListN.{length, get_or, drop, set, length-map, drop_of_length-le}
 use lib.Seq.{sets, drop-cons, set_comm}
@@ -27,39 +27,29 @@ column_sets area at width vs p (u ∷ us) h =
     column_sets (set area p u) at width vs (suc p) us (omega arith) ∙ ap (λ (l : List ℕ). sets l (suc p) us) (column_set area at width vs p u (omega arith))
 
 -- the indices at the times from frame k on are still to be stored
-module _ (ts : List ℕ) (d width : ℕ) (ss : List ℕ) (k place : ℕ) (f : List ℕ) {w : List ℕ} (h : w ≡ column f place width (map (fanin_index d ss) (drop k ts))) where
-  pub column_on : k < length ts → {v : ℕ} → v ≡ fanin_index d ss (get_or ts k 0) → w ≡ column (set f place v) (place + width) width (map (fanin_index d ss) (drop (k + 1) ts))
+module _ (ts : List ℕ) (d at width : ℕ) (ss : List ℕ) (k : ℕ) (f : List ℕ) {w : List ℕ} (h : w ≡ column f (at + k * width) width (map (fanin_index d ss) (drop k ts))) where
+  pub column_on : k < length ts → {v : ℕ} → v ≡ fanin_index d ss (get_or ts k 0) → w ≡ column (set f (at + k * width) v) (at + (k + 1) * width) width (map (fanin_index d ss) (drop (k + 1) ts))
   unfolding column
-  column_on l q = h ∙ rw (drop-cons ts k 0 l, add-one k, q)
+  column_on l q =
+      let on : at + (k + 1) * width ≡ at + k * width + width = omega arith in
+      h ∙ rw (on, drop-cons ts k 0 l, add-one k, q)
 
   pub column_end : length ts ≤ k → f ≡ w
   unfolding column
   column_end l = sym (h ∙ rw (drop_of_length-le ts l))
 
 -- the same of two fan-ins, whose indices lie side by side
-module _ (ts : List ℕ) (d : ℕ) (one other : List ℕ) (k place : ℕ) (f : List ℕ) {w : List ℕ} (h : w ≡ sets f place (flat_map (fanin_row d (one ∷ other ∷ [])) (drop k ts))) where
-  pub pairs_on : k < length ts → {v u : ℕ} → v ≡ fanin_index d one (get_or ts k 0) → u ≡ fanin_index d other (get_or ts k 0) → w ≡ sets (set (set f place v) (place + 1) u) (place + 2) (flat_map (fanin_row d (one ∷ other ∷ [])) (drop (k + 1) ts))
+module _ (ts : List ℕ) (d at : ℕ) (one other : List ℕ) (k : ℕ) (f : List ℕ) {w : List ℕ} (h : w ≡ sets f (at + 2 * k) (flat_map (fanin_row d (one ∷ other ∷ [])) (drop k ts))) where
+  pub pairs_on : k < length ts → {v u : ℕ} → v ≡ fanin_index d one (get_or ts k 0) → u ≡ fanin_index d other (get_or ts k 0) → w ≡ sets (set (set f (at + 2 * k) v) (at + 2 * k + 1) u) (at + 2 * (k + 1)) (flat_map (fanin_row d (one ∷ other ∷ [])) (drop (k + 1) ts))
   unfolding flat_map
   pairs_on l q r =
-      let two : place + 2 ≡ suc (suc place) = omega arith in
-      h ∙ rw (drop-cons ts k 0 l, add-one k, add-one place, two, q, r)
+      let one : at + 2 * k + 1 ≡ suc (at + 2 * k) = omega arith in
+      let two : at + 2 * (k + 1) ≡ suc (suc (at + 2 * k)) = omega arith in
+      h ∙ rw (drop-cons ts k 0 l, one, two, add-one k, q, r)
 
   pub pairs_end : length ts ≤ k → f ≡ w
   unfolding flat_map
   pairs_end l = sym (h ∙ rw (drop_of_length-le ts l))
-
--- places in the area
-pub place_in : (at n k width m p : ℕ) → p ≡ at + k * width → at + n * width < m + width → k < n → p < m
-place_in at n k width m p e h b =
-    let q : suc k * width ≤ n * width = mul-le-mul_right width b in
-    let r : suc k * width ≡ k * width + width = suc-mul k width in
-    omega arith
-
-pub place_on : (at k width p : ℕ) → p ≡ at + k * width → p + width ≡ at + (k + 1) * width
-place_on at k width p e =
-    let r : suc k * width ≡ k * width + width = suc-mul k width in
-    let r' : (k + 1) * width ≡ k * width + width = rw (add-one k) r in
-    omega arith
 
 -- ---- all columns, side by side
 

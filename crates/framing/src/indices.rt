@@ -22,11 +22,9 @@ pub(crate) fn inertial_row(own: &[Tick], reach: Tick, inertial: &mut [u16], firs
     ensures { inertial.new ≡ sets inertial.old first (inertial_indices reach own.now) }
 {
     let mut later = 0;
-    let mut k = 0;
-    while k < own.len() {
-        later = slices::first_above(own, later, own[k] + reach);
+    for (k, t) in own.iter().enumerate() {
+        later = slices::first_above(own, later, *t + reach);
         inertial[first + k] = (later - (k + 1)) as u16;
-        k += 1;
     }
 }
 
@@ -73,15 +71,12 @@ fn index_pairs(
 {
     let mut x = 0;
     let mut y = 0;
-    let mut place = first;
-    let mut k = 0;
-    while k < own.len() {
-        x = begun_by(one, delay, x, Time(own[k]));
-        y = begun_by(other, delay, y, Time(own[k]));
+    for (k, t) in own.iter().enumerate() {
+        x = begun_by(one, delay, x, Time(*t));
+        y = begun_by(other, delay, y, Time(*t));
+        let place = first + 2 * k;
         fanins[place] = Frame(x as u16).0;
         fanins[place + 1] = Frame(y as u16).0;
-        place += 2;
-        k += 1;
     }
 }
 
@@ -103,8 +98,7 @@ fn index_columns(
     let delay = gate.delay;
     let list = gate.list;
     let entries = gate.entries;
-    let mut e: u16 = 0;
-    while e < entries {
+    for e in 0..entries {
         let fanin = times_of(directory, times, circuit::fanin_at(file, list, e));
         index_column(
             fanin,
@@ -114,7 +108,6 @@ fn index_columns(
             first + e as usize,
             entries as usize,
         );
-        e += 1;
     }
 }
 
@@ -134,14 +127,9 @@ fn index_column(
     ensures { fanins.new ≡ column fanins.old at width (map (fanin_index delay fanin.now) own.now) }
 {
     let mut begun = 0;
-    let mut place = at;
-    let mut k = 0;
-    while k < own.len() {
-        begun = begun_by(fanin, delay, begun, Time(own[k]));
-        let index = Frame(begun as u16);
-        fanins[place] = index.0;
-        place += width;
-        k += 1;
+    for (k, t) in own.iter().enumerate() {
+        begun = begun_by(fanin, delay, begun, Time(*t));
+        fanins[at + k * width] = Frame(begun as u16).0;
     }
 }
 
@@ -160,7 +148,7 @@ fn begun_by(fanin: &[Tick], delay: Tick, from: usize, time: Time) -> usize
     }
 }
 
-// The frame behind this one, or this one where it is the last.
+// The frame behind this one, or this one where it is the last. The library's `min` of the two would be compiled with a jump here.
 fn behind(frame: usize, frames: usize) -> usize
     requires { frame < frames }
     ensures { (frame + 1 < frames → result ≡ frame + 1) × (frames ≤ frame + 1 → result ≡ frame) × (result < frames) }

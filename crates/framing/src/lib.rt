@@ -60,7 +60,7 @@ pub fn store_times(
     let pair = 2 * (net.0 as usize);
     directory[pair] = first;
     directory[pair + 1] = count as u16;
-    let end = own[count - 1];
+    let end = own.last().copied().unwrap_or(0);
     Totals {
         frames: first + count as u16,
         fanins: totals.fanins + count as u16 * entries,

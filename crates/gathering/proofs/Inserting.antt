@@ -1,11 +1,11 @@
 -- A time put in its place in a row: the place, the numbers from there on moved by one, and the row that comes of it.
 -- Assumes nothing.
-use Prim.Native.Nat.{ℕ, zero, suc, ◌+◌, ◌-◌, ◌<◌, ◌≤◌}
+use Prim.Native.Nat.{ℕ, suc, ◌+◌, ◌-◌, ◌<◌, ◌≤◌}
 use mathlib.Core.Path.{◌≡◌, refl, sym, ◌∙◌, ap}
 use mathlib.Core.Logic.{inl, inr}
 use mathlib.Core.List.{List, [], ◌∷◌, ◌++◌, append_assoc}
-use lib.ListN.{length, get_or, take, drop, set, length-append, length-drop, get_or-append, take-append-drop, drop_of_length-le}
-use lib.Seq.{take-suc, drop-cons, get_or-take, length-take-le, set_at, take-take, take_at}
+use lib.ListN.{length, length-take, get_or, take, drop, set, length-append, length-drop, take-append-drop}
+use lib.Seq.{take-suc, get_or-take, length-take-le, set_at, take-take, take_at}
 use native.Mathlib.Omega.{arith}
 use native.Mathlib.Nat.{sub-zero}
 use native.Mathlib.Numerals.{add-one}
@@ -20,29 +20,6 @@ use Rattle.gathering.specs.Steps.{Inserted}
 
 abbrev pub moved : List ℕ → ℕ → ℕ → List ℕ
 moved row count i = take (i + 1) row ++ (drop i (take count row) ++ drop (count + 1) row)
-
-module _ (row : List ℕ) (count : ℕ) (fits : count < length row) where
-  pub shift_none : row ≡ moved row count count
-  shift_none =
-      let n : length (take count row) ≤ count = rw (length-take-le count row (omega arith)) (omega arith) in
-      let e : drop count (take count row) ≡ [] = drop_of_length-le (take count row) n in
-      sym (rw e (take-append-drop (count + 1) row))
-
-  shift_one : (q : ℕ) → q < count → {a : List ℕ} → a ≡ moved row count (suc q) → set a (suc q) (get_or a q 0) ≡ moved row count q
-  shift_one q l {a} h =
-      let rest = drop (suc q) (take count row) ++ drop (count + 1) row in
-      let front : take (suc q + 1) row ≡ take (suc q) row ++ (get_or row (suc q) 0 ∷ []) = rw add-one (take-suc row (suc q) 0 (omega arith)) in
-      let whole : a ≡ take (suc q) row ++ (get_or row (suc q) 0 ∷ rest) = h ∙ rw (front, append_assoc) in
-      let n : length (take (suc q) row) ≡ suc q = length-take-le (suc q) row (omega arith) in
-      let v : get_or a q 0 ≡ get_or row q 0 = rw whole (get_or-append (take (suc q) row) _ 0 q (omega arith) ∙ get_or-take (suc q) row q 0 (omega arith)) in
-      let next : drop q (take count row) ≡ get_or row q 0 ∷ drop (suc q) (take count row) =
-      drop-cons (take count row) q 0 (rw (length-take-le count row (omega arith)) l) ∙ rw (get_or-take count row q 0 l) in
-      let put : set a (suc q) (get_or a q 0) ≡ take (suc q) row ++ (get_or row q 0 ∷ rest) = rw (v, whole) (set_at (take (suc q) row) _ rest (get_or row q 0) (suc q) n) in
-      put ∙ rw (next, add-one q)
-
-  pub shift_on : (i : ℕ) → 0 < i → i ≤ count → {a : List ℕ} → a ≡ moved row count i → set a i (get_or a (i - 1) 0) ≡ moved row count (i - 1)
-  shift_on zero l m h = absurd (omega arith)
-  shift_on (suc q) l m h = let e : suc q - 1 ≡ q = omega arith in rw e (shift_one q (omega arith) h)
 
 -- ---- a list with suc e put in: its place is behind the numbers at the front that are at most e
 
@@ -81,14 +58,17 @@ place_later f e h (x ∷ xs) =
       | inr k ↦ rw (lt-leb x f k) (omega arith)
     ]
 
--- a part of the row from 0 on, as the code lends it
+-- a part of a row from 0 on, where code lends it as `&row[0..count]`
 pub front : (row : List ℕ) (count : ℕ) → take (count - 0) (drop 0 row) ≡ take count row
 front row count = rw (sub-zero count)
 
 -- what the search from `from` on answers, of the first `count` of the row, where the place is not before
-pub place_found : (row : List ℕ) (count from e : ℕ) → from ≤ leading e (take count row) → {p : ℕ} → p ≡ from + leading e (drop from (take (count - 0) (drop 0 row)))
-    → p ≡ leading e (take count row)
-place_found row count from e h q = q ∙ rw (front row count) (sym (leading_skip e from (take count row) h))
+pub place_found : (row : List ℕ) (count from e : ℕ) → from ≤ leading e (take count row) → {p : ℕ} → p ≡ from + leading e (drop from (take count row)) → p ≡ leading e (take count row)
+place_found row count from e h q = q ∙ sym (leading_skip e from (take count row) h)
+
+-- a place among the first `count` of a row is not behind them
+pub place_most : (row : List ℕ) (count e : ℕ) → leading e (take count row) ≤ count
+place_most row count e = omega (arith, leading_most e (take count row), length-take count row)
 
 -- a time that is not 0
 not_zero : (t : ℕ) → 1 ≤ t → t ≡ suc (t - 1)
@@ -103,9 +83,6 @@ module _ (row : List ℕ) (count t : ℕ) (fits : count < length row) (pos : 1 �
   t_is : t ≡ suc (t - 1)
   t_is = not_zero t pos
 
-  pub place_within : p ≤ count
-  place_within = omega (arith, n, leading_most (t - 1) (take count row))
-
   pub insert_kept : p < count → get_or row p 0 ≡ t → Inserted row row count t count
   insert_kept l e =
       let same : insert_once t (take count row) ≡ take count row =
@@ -114,7 +91,7 @@ module _ (row : List ℕ) (count t : ℕ) (fits : count < length row) (pos : 1 �
 
   pub insert_put : (p < count → get_or row p 0 ≡ t → ⊥) → {a : List ℕ} → a ≡ moved row count p → Inserted row (set a p t) count t (count + 1)
   insert_put other {a} m =
-      let l : p ≤ count = place_within in
+      let l : p ≤ count = rw h (place_most row count (t - 1)) in
       let rest = drop p (take count row) ++ drop (count + 1) row in
       let front : take p (take count row) ≡ take p row = take-take p count row l in
       let size : length (take p row) ≡ p = length-take-le p row (omega arith) in

@@ -1,7 +1,7 @@
 -- The times of two fan-ins merged: at each turn the earlier of the two next ones, or both where they are the same. What comes
 -- of it rises and has the members of both.
 -- Assumes nothing.
-use Prim.Native.Nat.{ℕ, zero, suc, ◌+◌, ◌-◌, ◌≤◌, ◌<◌}
+use Prim.Native.Nat.{ℕ, zero, suc, min, ◌+◌, ◌-◌, ◌≤◌, ◌<◌}
 use mathlib.Core.Path.{◌≡◌, refl, sym, ap, ap₂, ◌∙◌}
 use mathlib.Core.Logic.{inl, inr}
 use mathlib.Core.Bool.{cond, or_comm}
@@ -12,6 +12,7 @@ use lib.Dec.{leb}
 use lib.ListN.{length, get_or, take, drop, set, length-map, length-drop, drop_of_length-le}
 use lib.Seq.{drop-cons, drop-drop, take-suc-set, append_snoc, length-take-le}
 use borrow.Author.Tests.{lt-ltb, le-ltb, eq-eqb, le-leb, lt-leb}
+use Rattle.std.proofs.Math.Nat.{min-eq_left, min-eq_right}
 use Rattle.lists.proofs.Choices.{order, less, same, more, tri}
 use Rattle.method.specs.Times.{insert_once, rising, shifted, gate_times, among}
 use Rattle.method.proofs.Rising.{Rise, Starts, Above, rise_lower, rise_ext, above_append, rising_rise, rising_among, among_append}
@@ -78,13 +79,13 @@ module _ (d : ℕ) where
 
   -- the earlier of the two first ones comes first, and is passed
   union_step : (p a b : ℕ) (xs ys : List ℕ) → Rise p (a ∷ xs) → Rise p (b ∷ ys)
-      → union (a ∷ xs) (b ∷ ys) ≡ (cond (leb a b) a b + d) ∷ union (drop (cond (leb a b) 1 0) (a ∷ xs)) (drop (cond (leb b a) 1 0) (b ∷ ys))
+      → union (a ∷ xs) (b ∷ ys) ≡ (min a b + d) ∷ union (drop (cond (leb a b) 1 0) (a ∷ xs)) (drop (cond (leb b a) 1 0) (b ∷ ys))
   union_step p a b xs ys r s =
       elim (tri a b) [
-        | less h ↦ rw (le-leb a b (omega arith), lt-leb b a h) (union_first a xs (b ∷ ys) r.1 (h, s.1))
-        | same h ↦ rw (le-leb a b (omega arith), le-leb b a (omega arith))
+        | less h ↦ rw (min-eq_left {n = a} {m = b} (omega arith), le-leb a b (omega arith), lt-leb b a h) (union_first a xs (b ∷ ys) r.1 (h, s.1))
+        | same h ↦ rw (min-eq_left {n = a} {m = b} (omega arith), le-leb a b (omega arith), le-leb b a (omega arith))
             (let s' : Rise a ys = rw h s.1 in rw (← h) (union_both p a xs ys r.0 r.1 s'))
-        | more h ↦ rw (lt-leb a b h, le-leb b a (omega arith))
+        | more h ↦ rw (min-eq_right {n = b} {m = a} (omega arith), lt-leb a b h, le-leb b a (omega arith))
             (union_swap p (a ∷ xs) (b ∷ ys) r s ∙ union_first b ys (a ∷ xs) s.1 (h, r.1) ∙ ap (λ (l : List ℕ). (b + d) ∷ l) (union_swap b ys (a ∷ xs) s.1 (h, r.1)))
       ]
 
@@ -103,9 +104,6 @@ by_one a b = elim (order a b) [ inl h ↦ rw (le-leb a b h) (omega arith) | inr 
 
 pub by_some : (a b : ℕ) → 1 ≤ cond (leb a b) 1 0 + cond (leb b a) 1 0
 by_some a b = elim (order a b) [ inl h ↦ rw (le-leb a b h) (omega arith) | inr h ↦ rw (lt-leb a b h, le-leb b a (omega arith)) (omega arith) ]
-
-pub earlier_low : (a b m : ℕ) → a ≤ m → b ≤ m → cond (leb a b) a b ≤ m
-earlier_low a b m p q = elim (order a b) [ inl h ↦ rw (le-leb a b h) p | inr h ↦ rw (lt-leb a b h) q ]
 
 -- ---- the turns of the merge: n are put, the frames i and j are next
 
@@ -127,7 +125,7 @@ module _ (d : ℕ) (xs ys : List ℕ) (x : Starts xs) (y : Starts ys) where
 
   module _ (n i j : ℕ) (row : List ℕ) {w : List ℕ} (h : w ≡ take n row ++ union d (drop i xs) (drop j ys)) (from-i : 1 ≤ i) (from-j : 1 ≤ j) where
     pub merge_on : i < length xs → j < length ys → n < length row → {v i' j' : ℕ}
-        → v ≡ cond (leb (get_or xs i 0) (get_or ys j 0)) (get_or xs i 0) (get_or ys j 0) + d → i' ≡ cond (leb (get_or xs i 0) (get_or ys j 0)) 1 0 → j' ≡ cond (leb (get_or ys j 0) (get_or xs i 0)) 1 0
+        → v ≡ min (get_or xs i 0) (get_or ys j 0) + d → i' ≡ cond (leb (get_or xs i 0) (get_or ys j 0)) 1 0 → j' ≡ cond (leb (get_or ys j 0) (get_or xs i 0)) 1 0
         → w ≡ take (n + 1) (set row n v) ++ union d (drop (i + i') xs) (drop (j + j') ys)
     merge_on a b c {v} {i'} {j'} p q r =
         let xi : drop i xs ≡ get_or xs i 0 ∷ drop (suc i) xs = drop-cons xs i 0 a in

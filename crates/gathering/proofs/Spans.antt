@@ -5,6 +5,7 @@ use mathlib.Core.Path.{◌≡◌, ap, ◌∙◌}
 use mathlib.Core.Bool.{true, false≢true}
 use mathlib.Core.List.{List, [], ◌∷◌}
 use native.Mathlib.Omega.{arith}
+use native.Mathlib.Nat.{add_assoc}
 use native.Mathlib.Numerals.{add-one}
 use lib.ListN.{length, get_or, take, drop, length-map, length-drop, drop_of_length-le, get_or-map}
 use lib.Seq.{length-take-le, drop-cons, get_or-drop}
@@ -32,6 +33,12 @@ pub own_next : (ts : List ℕ) → start_and_rise ts ≡ true → (k : ℕ) → 
 own_next ts e k h =
     let r : Rise (get_or ts k 0) (get_or ts (suc k) 0 ∷ drop (suc (suc k)) ts) = rw (drop-cons ts (suc k) 0 (omega arith)) at (starts_drop ts (test_starts ts e) k (omega arith)) in
     rw (add-one k) (omega (arith, r.0))
+
+-- and so from frame 1 on
+pub later_next : (ts : List ℕ) → start_and_rise ts ≡ true → {part : List ℕ} → part ≡ drop 1 ts → (k : ℕ) → k + 1 < length part → get_or part k 0 ≤ get_or part (k + 1) 0
+later_next ts e {part} p k h =
+    let long : 1 + k + 1 < length ts = omega (arith, rw (p, length-drop) at h) in
+    rw (p, get_or-drop 1 ts k 0, get_or-drop 1 ts (k + 1) 0, ← add_assoc) (own_next ts e (1 + k) long)
 
 take_early : (b m : ℕ) (l : List ℕ) → ((k : ℕ) → get_or l k 0 ≤ b) → (k : ℕ) → get_or (take m l) k 0 ≤ b
 take_early b zero l e k = omega arith
@@ -77,10 +84,6 @@ spans_start {file} {g} {d} {t} f e l =
 
 -- fan-in e is net n
 module _ {file : List ℕ} {g : GateRecord} {d t : List ℕ} (f : Fed file g d t) (e : ℕ) (h : e < g.entries) {n : ℕ} (q : n ≡ fanin_at file g.list e) where
-  -- what is asked where its times are read
-  pub fanin_there : (2 * n + 1 < length d) × (get_or d (2 * n) 0 + get_or d (2 * n + 1) 0 ≤ length t)
-  fanin_there = (omega (arith, f.pair e h), rw q (f.inside e h))
-
   pub fanin_few : length (part_of d t n) ≤ most_net_frames
   unfolding part_of
   fanin_few =

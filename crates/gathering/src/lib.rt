@@ -54,11 +54,9 @@ fn gather_times(
     let entries = gate.entries;
     gathered[0] = 0;
     let mut count = 1;
-    let mut e: u16 = 0;
-    while e < entries {
+    for e in 0..entries {
         let fanin = times_of(directory, times, circuit::fanin_at(file, list, e));
         count = add_times(fanin, delay, gathered, count);
-        e += 1;
     }
     count
 }
@@ -73,16 +71,18 @@ fn merge_times(one: &[Tick], other: &[Tick], delay: Tick, gathered: &mut [Tick])
     let mut n = 1;
     let mut i = 1;
     let mut j = 1;
+    // A turn moves one of the two indices or both: no `for` does that.
     while i < one.len() {
         if other.len() <= j {
             return add_rest(one, i, delay, gathered, n);
         }
-        let s = Time(one[i]);
-        let t = Time(other[j]);
-        gathered[n] = earlier_of(s, t).0 + delay;
+        let s = one[i];
+        let t = other[j];
+        // `t.min(s)` in this order: then one comparison serves it and the two tests below.
+        gathered[n] = t.min(s) + delay;
         n += 1;
-        i += slices::not_above(s.0, t.0);
-        j += slices::not_above(t.0, s.0);
+        i += slices::not_above(s, t);
+        j += slices::not_above(t, s);
     }
     add_rest(other, j, delay, gathered, n)
 }
@@ -94,11 +94,10 @@ fn add_rest(fanin: &[Tick], from: usize, delay: Tick, gathered: &mut [Tick], cou
     ensures { Added gathered.old gathered.new count (plus delay (drop from fanin.now)) result }
 {
     let mut n = count;
-    let mut k = from;
-    while k < fanin.len() {
+    // Over the range, since a loop over `&fanin[from..]` is slower where few times are left.
+    for k in from..fanin.len() {
         gathered[n] = fanin[k] + delay;
         n += 1;
-        k += 1;
     }
     n
 }
@@ -124,49 +123,36 @@ fn add_times(fanin: &[Tick], delay: Tick, gathered: &mut [Tick], count: usize) -
 {
     let mut n = count;
     let mut place = 0;
-    let mut k = 1;
-    while k < fanin.len() {
-        let t = fanin[k] + delay;
-        place = slices::first_above(&gathered[0..n], place, t - 1);
+    let later = &fanin[1..];
+    for s in later {
+        let t = *s + delay;
+        place = slices::first_above(&gathered[..n], place, t - 1);
         n = put_time(gathered, n, place, Time(t));
-        k += 1;
     }
     n
 }
 
 // Puts a time, not 0, at its place among the first `count` gathered, unless it is there; how many there are then.
+#[tactic(auto, using(crate::proofs::Inserting::place_most))]
 fn put_time(gathered: &mut [Tick], count: usize, place: usize, time: Time) -> usize
     requires { (count < length gathered.old) × (1 ≤ time.0) × (place ≡ leading (time.0 - 1) (take count gathered.old)) }
     ensures { Inserted gathered.old gathered.new count time.0 result }
 {
     let t = time.0;
-    if place < count {
-        let here = gathered[place];
-        if here == t {
-            return count;
-        }
+    if place < count && gathered[place] == t {
+        return count;
     }
     shift(gathered, place, count);
     gathered[place] = t;
     count + 1
 }
 
-// Moves the numbers from `place` up to `count` one place on.
+// Moves the numbers from `place` up to `count` one place on, as `copy_within` would, which is slower on so few.
 fn shift(gathered: &mut [Tick], place: usize, count: usize)
     requires { (place ≤ count) × (count < length gathered.old) }
     ensures { gathered.new ≡ take (place + 1) gathered.old ++ (drop place (take count gathered.old) ++ drop (count + 1) gathered.old) }
 {
-    let mut i = count;
-    while place < i {
-        let moved = gathered[i - 1];
-        gathered[i] = moved;
-        i -= 1;
+    for i in (place..count).rev() {
+        gathered[i + 1] = gathered[i];
     }
-}
-
-// The earlier of two times.
-fn earlier_of(a: Time, b: Time) -> Time
-    ensures { result.0 ≡ cond (leb a.0 b.0) a.0 b.0 }
-{
-    if a.0 <= b.0 { a } else { b }
 }

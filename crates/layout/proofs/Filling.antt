@@ -13,8 +13,6 @@ use Rattle.circuit.specs.Questions.{read_of}
 use Rattle.circuit.specs.Task.{Task, circuit_in, moments_in, frames_in}
 use Rattle.circuit.proofs.Parts.{gates_length}
 use Rattle.method.specs.declared.Totals.{Totals}
-use Rattle.layout.specs.declared.Progress.{Progress}
-use Rattle.layout.specs.declared.Progress.TheVariants as P
 use Rattle.method.specs.Areas.{Areas, all_cleared}
 use Rattle.method.specs.First.{Room}
 use Rattle.method.specs.Layout.{all_times, all_inertial, laid}
@@ -22,7 +20,8 @@ use Rattle.method.specs.Sums.{fits}
 use Rattle.layout.specs.Steps.{frames_of, Given, Reached, Filled}
 use Rattle.layout.proofs.Accepted.{nets_sized}
 use Rattle.method.proofs.Prefix.{frames_all}
-use Rattle.layout.proofs.Stepping.{never, Alike}
+use Rattle.layout.proofs.Stepping.{Alike}
+use Rattle.std.specs.Prelude.{Option, Some, None}
 
 laid_alike : (fs : List Frames) {a a' : Areas} → Alike a a' → laid fs a' ≡ laid fs a
 unfolding laid
@@ -36,24 +35,24 @@ cleared_alike l = rw (l.directory, l.times, l.inertial, l.fanins)
 pub nets_all : (task : Task) {gates : ℕ} → gates ≡ gates_of task.file → frames_of task gates ≡ frames_in task
 nets_all task {gates} all = frames_all (circuit_in task) (moments_in task) gates (all ∙ sym (gates_length task.file))
 
-module _ (task : Task) {gates : ℕ} (all : gates ≡ gates_of task.file) {a' : Areas} {r : Progress} (h : Reached task gates a' r) where
-  pub filled_now : {a : Areas} (t : Totals) → r ≡ P.Planned t → Alike a a' → Filled task a a' (P.Planned t)
+module _ (task : Task) {gates : ℕ} (all : gates ≡ gates_of task.file) {a' : Areas} {r : Option Totals} (h : Reached task gates a' r) where
+  pub filled_now : {a : Areas} (t : Totals) → r ≡ Some t → Alike a a' → Filled task a a' (Some t)
   filled_now t e l =
       let o = h.planned t e in
       record {
         fit = λ u q. rw (nets_all task all) at o.fit;
         totals = λ u q. (let s : u ≡ t = cc in s ∙ (rw (nets_all task all) at o.totals));
         filled = λ u q. (rw (nets_all task all) at o.is) ∙ laid_alike (frames_in task) l;
-        stopped = λ q. absurd (never q);
-        emptied = λ q. absurd (never q);
+        stopped = λ q. absurd cc;
+        emptied = λ q. absurd cc;
       }
 
-  pub filled_none : r ≡ P.TooMany → {a b : Areas} → b ≡ all_cleared a' → Alike a a' → Filled task a b P.TooMany
+  pub filled_none : r ≡ None → {a b : Areas} → b ≡ all_cleared a' → Alike a a' → Filled task a b None
   filled_none e c l =
       record {
-        fit = λ u q. absurd (never (sym q));
-        totals = λ u q. absurd (never (sym q));
-        filled = λ u q. absurd (never (sym q));
+        fit = λ u q. absurd cc;
+        totals = λ u q. absurd cc;
+        filled = λ u q. absurd cc;
         stopped = λ q. rw (nets_all task all) at (h.stopped e);
         emptied = λ q. c ∙ cleared_alike l;
       }

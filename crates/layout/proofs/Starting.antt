@@ -69,19 +69,6 @@ inputs_totals m n t f w l =
 
 -- ---- one input more
 
--- the last of an input's times
-pub last_none : (ts : List ℕ) → length ts ≡ 0 → 0 ≡ get_or (0 ∷ ts) (length ts) 0
-last_none [] e = refl
-last_none (t ∷ ts) e = absurd (omega arith)
-
-pub last_some : (ts : List ℕ) → (length ts ≡ 0 → ⊥) → get_or ts (length ts - 1) 0 ≡ get_or (0 ∷ ts) (length ts) 0
-last_some [] e = absurd (e refl)
-last_some (t ∷ ts) e = ap (λ (n : ℕ). get_or (t ∷ ts) n 0) (let q : suc (length ts) - 1 ≡ length ts = omega arith in q)
-
--- in areas as long
-pub open_alike : {h : Schedule} {d d' t t' : List ℕ} → Open h d t → length d' ≡ length d → length t' ≡ length t → Open h d' t'
-open_alike o p q = record { suits = o.suits; few = o.few; directory = omega (arith, o.directory); times = omega (arith, o.times) }
-
 pub begun_none : (m : Moments) {d t : List ℕ} → Inputs m d t 0 → Begun m 0 d t (record { frames = 0; fanins = 0; last = record { 0 = 0 } })
 unfolding latest
 begun_none m i = record { written = i; totals_are = inputs_totals m 0 _ refl refl (rw (no_times m)) }

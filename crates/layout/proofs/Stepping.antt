@@ -22,7 +22,6 @@ use Rattle.circuit.specs.Limits.{most_time}
 use Rattle.circuit.specs.Task.{Task, circuit_in, moments_in}
 use Rattle.circuit.proofs.Parts.{gates_length, gate_from, circuit_inputs, circuit_within, few, within, gate_read, gate_entries}
 use Rattle.method.specs.declared.Totals.{Totals}
-use Rattle.layout.specs.declared.Progress.TheVariants as P
 use Rattle.method.specs.Limits.{most_net_frames, most_total_frames}
 use Rattle.method.specs.Areas.{Areas}
 use Rattle.method.specs.Layout.{all_times, all_fanins, part_of}
@@ -38,16 +37,18 @@ use Rattle.method.proofs.Prefix.{fanin_times, next_frames, next_times, next_iner
 use Rattle.method.proofs.Fitting.{fits_total, fits_net, fits_more, fits_over}
 use Rattle.layout.proofs.Accepted.{nets_sized, nets_count, nets_next, frames_early}
 use Rattle.method.proofs.Latest.{latest_append, latest_is}
+use Rattle.std.specs.Prelude.{Option, Some, None}
 
 -- ---- the times of a gate, counted
 
 module _ {row : List ℕ} (d : ℕ) (ss : List (List ℕ)) {n : ℕ} (p : Put row (gate_times d ss) (1 + most_fanins * most_net_frames) n) (first : ℕ) where
-  pub counted_over : (n ≤ most_net_frames → n ≤ most_total_frames - first → ⊥) → Counted row (gate_times d ss) first 0
-  counted_over h = record { front = λ some. absurd (some refl); few = omega arith; left = omega arith; over = λ e a b. h (omega (arith, p.size)) (omega (arith, p.size)) }
+  pub counted_over : (n ≤ most_net_frames → n ≤ most_total_frames - first → ⊥) → Counted row (gate_times d ss) first None
+  counted_over h = record { front = λ m e. absurd cc; few = λ m e. absurd cc; left = λ m e. absurd cc; over = λ e a b. h (omega (arith, p.size)) (omega (arith, p.size)) }
 
-  pub counted_kept : n ≤ most_net_frames → n ≤ most_total_frames - first → Counted row (gate_times d ss) first n
+  pub counted_kept : n ≤ most_net_frames → n ≤ most_total_frames - first → Counted row (gate_times d ss) first (Some n)
   counted_kept few left =
-      record { front = λ some. p; few = few; left = left; over = λ e a b. omega (arith, p.size, own_some (gate_times d ss) (starts_test (gate_times d ss) (gate_times_start d ss))) }
+      let same : (m : ℕ) → ◌≡◌ {A = Option ℕ} (Some n) (Some m) → n ≡ m = λ m e. cc in
+      record { front = λ m e. rw (← same m e) p; few = λ m e. rw (← same m e) few; left = λ m e. rw (← same m e) left; over = λ e a b. cc }
 
 -- ---- what is known of gate j and its net, in two stages
 
@@ -65,10 +66,9 @@ pub record Step (task : Task) (net j : ℕ) (a : Areas) (t : Totals) (g : GateRe
   pub fed : Fed task.file g a.directory a.times
   pub frames_low : t.frames ≤ most_total_frames
   -- its times, as they were counted
-  pub over : {row : List ℕ} → Counted row (gate_times g.delay (spans task.file g.list g.entries a.directory a.times)) t.frames 0 → fits (frames_of task (j + 1)) ≡ false
+  pub over : {row : List ℕ} → Counted row (gate_times g.delay (spans task.file g.list g.entries a.directory a.times)) t.frames None → fits (frames_of task (j + 1)) ≡ false
   -- as the code lends them: the first n gathered
-  pub stays : {row : List ℕ} {n : ℕ} → Counted row (gate_times g.delay (spans task.file g.list g.entries a.directory a.times)) t.frames n → (n ≡ 0 → ⊥)
-      → Stays task net j a t g (take (n - 0) (drop 0 row))
+  pub stays : {row : List ℕ} {n : ℕ} → Counted row (gate_times g.delay (spans task.file g.list g.entries a.directory a.times)) t.frames (Some n) → Stays task net j a t g (take (n - 0) (drop 0 row))
 
 -- ---- and why it holds
 
@@ -253,25 +253,21 @@ module _ (task : Task) {a : Areas} (given : Given task a) (j : ℕ) (l : j < gat
   next_length : length (gate_times g.delay (spans task.file g.list g.entries a.directory a.times)) ≡ length (next_frames (circuit_in task) (moments_in task) j).times
   next_length = ap length own_times
 
-  over : {row : List ℕ} → Counted row (gate_times g.delay (spans task.file g.list g.entries a.directory a.times)) t.frames 0 → fits (frames_of task (j + 1)) ≡ false
+  over : {row : List ℕ} → Counted row (gate_times g.delay (spans task.file g.list g.entries a.directory a.times)) t.frames None → fits (frames_of task (j + 1)) ≡ false
   over k =
       rw (nets_next task given.read j l)
       (fits_over (frames_of task j) (next_frames (circuit_in task) (moments_in task) j) (λ few total. k.over refl (omega (arith, next_length)) (omega (arith, next_length, frames_sum))))
 
   pub step : Step task net j a t g
-  step = record { fed = fed; frames_low = frames_low; over = over; stays = λ k some. stays (k.front some) k.few k.left }
+  step = record { fed = fed; frames_low = frames_low; over = over; stays = λ k. stays (k.front _ refl) (k.few _ refl) (k.left _ refl) }
 
 -- ---- what is reached
 
--- planned is not too many
-pub never : {t : Totals} → P.Planned t ≡ P.TooMany → ⊥
-never e = let z : ◌≡◌ {A = ℕ} 0 1 = cc in omega arith
+pub reached_now : (task : Task) (n : ℕ) (a : Areas) (t : Totals) → Going task n a t → Reached task n a (Some t)
+reached_now task n a t h = record { planned = λ u e. (let q : t ≡ u = cc in rw q at h); stopped = λ e. cc }
 
-pub reached_now : (task : Task) (n : ℕ) (a : Areas) (t : Totals) → Going task n a t → Reached task n a (P.Planned t)
-reached_now task n a t h = record { planned = λ u e. (let q : t ≡ u = cc in rw q at h); stopped = λ e. absurd (never e) }
-
-pub reached_many : (task : Task) (n : ℕ) (a : Areas) → fits (frames_of task n) ≡ false → Reached task n a P.TooMany
-reached_many task n a h = record { planned = λ u e. absurd (never (sym e)); stopped = λ e. h }
+pub reached_many : (task : Task) (n : ℕ) (a : Areas) → fits (frames_of task n) ≡ false → Reached task n a None
+reached_many task n a h = record { planned = λ u e. cc; stopped = λ e. h }
 
 -- ---- the areas are as long as before
 

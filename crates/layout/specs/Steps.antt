@@ -1,5 +1,5 @@
 -- What the functions of this crate ask for and promise, gate by gate.
-use Rattle.std.specs.Prelude.{ℕ, ◌+◌, ◌-◌, ◌*◌, ◌≤◌, ◌≡◌, true, false, List, length}
+use Rattle.std.specs.Prelude.{ℕ, ◌+◌, ◌-◌, ◌*◌, ◌≤◌, ◌≡◌, true, false, List, length, Option, Some, None}
 use Rattle.lists.specs.Ladder.{accepted}
 use Rattle.method.specs.Frames.{Frames, frames}
 use Rattle.method.specs.Stimulus.{Moments}
@@ -16,8 +16,6 @@ use Rattle.circuit.specs.File.{inputs_of, gates_of}
 use Rattle.circuit.specs.Questions.{read_of}
 use Rattle.circuit.specs.Task.{Task, circuit_in, moments_in, frames_in}
 use Rattle.gathering.specs.Steps.{Put}
-use Rattle.layout.specs.declared.Progress.{Progress}
-use Rattle.layout.specs.declared.Progress.TheVariants as P
 
 -- the frames of the inputs and the first j gates
 abbrev pub frames_of : Task → ℕ → List Frames
@@ -49,22 +47,22 @@ pub record Going (task : Task) (j : ℕ) (a : Areas) (t : Totals) : Type 0 where
   pub fit : fits (frames_of task j) ≡ true
 
 -- the times ts of a gate are counted against 64, and against what is left of 2,048 behind the first frames: r is their number,
--- and they stand at the front of the row; or it is 0, and they are too many
-pub record Counted (row ts : List ℕ) (first r : ℕ) : Type 0 where
-  pub front : (r ≡ 0 → ⊥) → Put row ts (1 + most_fanins * most_net_frames) r
-  pub few : r ≤ most_net_frames
-  pub left : r ≤ most_total_frames - first
-  pub over : r ≡ 0 → length ts ≤ most_net_frames → length ts ≤ most_total_frames - first → ⊥
+-- and they stand at the front of the row; or there is none, and they are too many
+pub record Counted (row ts : List ℕ) (first : ℕ) (r : Option ℕ) : Type 0 where
+  pub front : (n : ℕ) → r ≡ Some n → Put row ts (1 + most_fanins * most_net_frames) n
+  pub few : (n : ℕ) → r ≡ Some n → n ≤ most_net_frames
+  pub left : (n : ℕ) → r ≡ Some n → n ≤ most_total_frames - first
+  pub over : r ≡ None → length ts ≤ most_net_frames → length ts ≤ most_total_frames - first → ⊥
 
 -- after n gates were tried: they are planned, or there are too many frames
-pub record Reached (task : Task) (n : ℕ) (a : Areas) (r : Progress) : Type 0 where
-  pub planned : (t : Totals) → r ≡ P.Planned t → Going task n a t
-  pub stopped : r ≡ P.TooMany → fits (frames_of task n) ≡ false
+pub record Reached (task : Task) (n : ℕ) (a : Areas) (r : Option Totals) : Type 0 where
+  pub planned : (t : Totals) → r ≡ Some t → Going task n a t
+  pub stopped : r ≡ None → fits (frames_of task n) ≡ false
 
 -- all gates were tried: their frames fill the areas, or the areas are all zeros
-pub record Filled (task : Task) (a a' : Areas) (r : Progress) : Type 0 where
-  pub fit : (t : Totals) → r ≡ P.Planned t → fits (frames_in task) ≡ true
-  pub totals : (t : Totals) → r ≡ P.Planned t → t ≡ totals_of (frames_in task)
-  pub filled : (t : Totals) → r ≡ P.Planned t → a' ≡ laid (frames_in task) a
-  pub stopped : r ≡ P.TooMany → fits (frames_in task) ≡ false
-  pub emptied : r ≡ P.TooMany → a' ≡ all_cleared a
+pub record Filled (task : Task) (a a' : Areas) (r : Option Totals) : Type 0 where
+  pub fit : (t : Totals) → r ≡ Some t → fits (frames_in task) ≡ true
+  pub totals : (t : Totals) → r ≡ Some t → t ≡ totals_of (frames_in task)
+  pub filled : (t : Totals) → r ≡ Some t → a' ≡ laid (frames_in task) a
+  pub stopped : r ≡ None → fits (frames_in task) ≡ false
+  pub emptied : r ≡ None → a' ≡ all_cleared a

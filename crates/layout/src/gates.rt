@@ -4,13 +4,13 @@ ghost use Rattle.method.specs.Kinds.{most_fanins};
 ghost use Rattle.method.specs.Times.{gate_times};
 ghost use Rattle.method.specs.Limits.{most_net_frames, most_total_frames};
 ghost use Rattle.circuit.specs.File.{inputs_of, gates_of};
-ghost use Rattle.circuit.specs.Task.{task_of};
+ghost use Rattle.circuit.specs.Task.{task_in};
 ghost use Rattle.method.specs.Areas.{areas};
 ghost use Rattle.gathering.specs.Steps.{Fed, spans};
 ghost use Rattle.layout.specs.Steps.{Given, Going, Counted, Reached};
 
-use crate::{MOST_FANINS, Progress};
-use circuit::GateRecord;
+use crate::MOST_FANINS;
+use circuit::{GateRecord, InputsAndGates, Task};
 use framing::store_gate;
 use gathering::gate_times;
 use method::{Net, Tick, Totals};
@@ -25,30 +25,24 @@ pub const GATHERED_LENGTH: usize = MOST_FANINS * MOST_NET_FRAMES + 2;
 // Plans the gates, until one shows that there are too many frames. The row in which a gate's times are gathered is made once for
 // all gates, since to clear it for each would cost more than to fill it.
 pub(crate) fn add_gates(
-    file: &[u8],
-    counts: &[u8],
-    changes: &[Tick],
-    inputs: u16,
-    gates: u16,
+    task: Task,
+    nets: InputsAndGates,
     directory: &mut [u16],
     times: &mut [Tick],
     inertial: &mut [u16],
     fanins: &mut [u16],
     start: Totals,
-) -> Progress
-    requires given { Given (task_of file.now counts.now changes.now) (areas directory.old times.old inertial.old fanins.old) × (inputs ≡ inputs_of file.now) × (gates ≡ gates_of file.now) }
-    requires going { Going (task_of file.now counts.now changes.now) 0 (areas directory.old times.old inertial.old fanins.old) start }
-    ensures { Reached (task_of file.now counts.now changes.now) gates (areas directory.new times.new inertial.new fanins.new) result }
+) -> Option<Totals>
+    requires given { Given (task_in task) (areas directory.old times.old inertial.old fanins.old) × (nets.inputs ≡ inputs_of task.file.now) × (nets.gates ≡ gates_of task.file.now) }
+    requires going { Going (task_in task) 0 (areas directory.old times.old inertial.old fanins.old) start }
+    ensures { Reached (task_in task.entry) nets.gates (areas directory.new times.new inertial.new fanins.new) result }
 {
     let mut gathered: [Tick; GATHERED_LENGTH] = [0; GATHERED_LENGTH];
     let mut totals = start;
-    let mut j: u16 = 0;
-    while j < gates {
-        let net = Net(inputs + j);
-        let Progress::Planned(t) = add_gate(
-            file,
-            counts,
-            changes,
+    for j in 0..nets.gates {
+        let net = Net(nets.inputs + j);
+        totals = add_gate(
+            task,
             j,
             net,
             directory,
@@ -57,20 +51,14 @@ pub(crate) fn add_gates(
             fanins,
             &mut gathered,
             totals,
-        ) else {
-            return Progress::TooMany;
-        };
-        totals = t;
-        j += 1;
+        )?;
     }
-    Progress::Planned(totals)
+    Some(totals)
 }
 
 // Plans gate j, which drives `net`, after the nets before it, unless there are too many frames.
 fn add_gate(
-    file: &[u8],
-    counts: &[u8],
-    changes: &[Tick],
+    task: Task,
     j: u16,
     net: Net,
     directory: &mut [u16],
@@ -79,25 +67,22 @@ fn add_gate(
     fanins: &mut [u16],
     gathered: &mut [Tick],
     totals: Totals,
-) -> Progress
-    requires given { Given (task_of file.now counts.now changes.now) (areas directory.old times.old inertial.old fanins.old) × (j < gates_of file.now) × (net.0 ≡ inputs_of file.now + j) }
-    requires going { Going (task_of file.now counts.now changes.now) j (areas directory.old times.old inertial.old fanins.old) totals }
+) -> Option<Totals>
+    requires given { Given (task_in task) (areas directory.old times.old inertial.old fanins.old) × (j < gates_of task.file.now) × (net.0 ≡ inputs_of task.file.now + j) }
+    requires going { Going (task_in task) j (areas directory.old times.old inertial.old fanins.old) totals }
     requires most_net_frames_in_bounds { 1 + most_fanins * most_net_frames < length gathered.old }
-    ensures { Reached (task_of file.now counts.now changes.now) (j + 1) (areas directory.new times.new inertial.new fanins.new) result }
+    ensures { Reached (task_in task.entry) (j + 1) (areas directory.new times.new inertial.new fanins.new) result }
 {
-    let gate = circuit::gate_at(file, j);
-    let count = time_gate(file, gate, directory, times, gathered, totals.frames);
-    if count == 0 {
-        return Progress::TooMany;
-    }
+    let gate = circuit::gate_at(task.file, j);
+    let count = time_gate(task.file, gate, directory, times, gathered, totals.frames)?;
     let own = &gathered[0..count];
-    Progress::Planned(store_gate(
-        file, gate, net, own, directory, times, inertial, fanins, totals,
+    Some(store_gate(
+        task.file, gate, net, own, directory, times, inertial, fanins, totals,
     ))
 }
 
-// Puts the times of a gate at the front of `gathered`, and counts them. 0, which is no gate's count, says that they are too many
-// for a net, or too many behind the first frames.
+// Puts the times of a gate at the front of `gathered`, and counts them, unless they are too many for a net, or too many behind the
+// first frames.
 pub fn time_gate(
     file: &[u8],
     gate: GateRecord,
@@ -105,17 +90,17 @@ pub fn time_gate(
     times: &[Tick],
     gathered: &mut [Tick],
     first: u16,
-) -> usize
+) -> Option<usize>
     requires fed { Fed file.now gate directory.now times.now × (first ≤ most_total_frames) }
     requires most_net_frames_in_bounds { 1 + most_fanins * most_net_frames < length gathered.old }
     ensures { Counted gathered.new (gate_times gate.delay (spans file.now gate.list gate.entries directory.now times.now)) first result }
 {
     let count = gate_times(file, gate, directory, times, gathered);
     if MOST_NET_FRAMES < count {
-        return 0;
+        return None;
     }
     if ((MOST_TOTAL_FRAMES - first) as usize) < count {
-        return 0;
+        return None;
     }
-    count
+    Some(count)
 }

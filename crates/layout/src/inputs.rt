@@ -21,10 +21,8 @@ pub fn add_inputs(
         fanins: 0,
         last: Time(0),
     };
-    let mut n = 0;
-    while n < counts.len() {
+    for n in 0..counts.len() {
         totals = add_input(counts, changes, directory, times, n, totals);
-        n += 1;
     }
     totals
 }
@@ -51,12 +49,11 @@ fn add_input(
     slices::store(times, first as usize + 1, own);
     directory[2 * n] = first;
     directory[2 * n + 1] = count + 1;
-    let before = totals.last;
     let last = last_of(own);
     Totals {
         frames: first + (count + 1),
         fanins: 0,
-        last: Time(slices::later_of(before.0, last)),
+        last: Time(totals.last.0.max(last)),
     }
 }
 
@@ -64,8 +61,5 @@ fn add_input(
 fn last_of(changes: &[Tick]) -> Tick
     ensures { result ≡ get_or (0 ∷ changes.now) (length changes.now) 0 }
 {
-    if changes.len() == 0 {
-        return 0;
-    }
-    changes[changes.len() - 1]
+    changes.last().copied().unwrap_or(0)
 }

@@ -3,13 +3,14 @@
 
 ghost use Rattle.std.specs.Prelude.{◌≡◌};
 ghost use Rattle.circuit.specs.File.{inputs_of, gates_of};
-ghost use Rattle.circuit.specs.Task.{task_of};
+ghost use Rattle.circuit.specs.Task.{task_in};
 ghost use Rattle.method.specs.Areas.{areas};
 ghost use Rattle.layout.specs.Steps.{Given, Filled};
 
 mod gates;
 mod inputs;
 
+use circuit::{InputsAndGates, Task};
 use gates::add_gates;
 pub use gates::{GATHERED_LENGTH, time_gate};
 pub use inputs::add_inputs;
@@ -18,36 +19,25 @@ use method::{Tick, Totals};
 // A gate has at most this many fan-in entries.
 const MOST_FANINS: usize = 8;
 
-// How far planning has come: the totals so far, or that there are too many frames.
-#[derive(Clone, Copy)]
-pub enum Progress {
-    Planned(Totals),
-    TooMany,
-}
-
-// Fills the areas with the frames of all nets; if there are too many frames, with zeros. They are cleared first, since what
-// is behind the last frame has to be 0 and a gate is stored behind those before it.
+// Fills the areas with the frames of all nets, and answers their totals; if there are too many frames, there are none, and the
+// areas are filled with zeros. They are cleared first, since what is behind the last frame has to be 0 and a gate is stored
+// behind those before it.
 pub fn fill(
-    file: &[u8],
-    counts: &[u8],
-    changes: &[Tick],
-    inputs: u16,
-    gates: u16,
+    task: Task,
+    nets: InputsAndGates,
     directory: &mut [u16],
     times: &mut [Tick],
     inertial: &mut [u16],
     fanins: &mut [u16],
-) -> Progress
-    requires { Given (task_of file.now counts.now changes.now) (areas directory.old times.old inertial.old fanins.old) × (inputs ≡ inputs_of file.now) × (gates ≡ gates_of file.now) }
-    ensures { Filled (task_of file.now counts.now changes.now) (areas directory.old times.old inertial.old fanins.old) (areas directory.new times.new inertial.new fanins.new) result }
+) -> Option<Totals>
+    requires { Given (task_in task) (areas directory.old times.old inertial.old fanins.old) × (nets.inputs ≡ inputs_of task.file.now) × (nets.gates ≡ gates_of task.file.now) }
+    ensures { Filled (task_in task.entry) (areas directory.old times.old inertial.old fanins.old) (areas directory.new times.new inertial.new fanins.new) result }
 {
     clearing::clear_plan(directory, times, inertial, fanins);
-    let start = add_inputs(counts, changes, directory, times);
-    let Progress::Planned(totals) = add_gates(
-        file, counts, changes, inputs, gates, directory, times, inertial, fanins, start,
-    ) else {
+    let start = add_inputs(task.counts, task.changes, directory, times);
+    let Some(totals) = add_gates(task, nets, directory, times, inertial, fanins, start) else {
         clearing::clear_plan(directory, times, inertial, fanins);
-        return Progress::TooMany;
+        return None;
     };
-    Progress::Planned(totals)
+    Some(totals)
 }

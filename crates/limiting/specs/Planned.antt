@@ -1,6 +1,6 @@
 -- What planning answers, and what it leaves in the areas.
 use Rattle.std.specs.Prelude.{ℕ, List}
-use Rattle.lists.specs.Ladder.{first_no, Answer, accepted, refused, unless}
+use Rattle.lists.specs.Ladder.{first_no, unless}
 use Rattle.lists.specs.Outcome.{Outcome, outcome, left_by}
 use Rattle.method.specs.declared.Totals.{Totals}
 use Rattle.method.specs.Frames.{Frames}
@@ -8,8 +8,6 @@ use Rattle.method.specs.Sums.{totals_of}
 use Rattle.method.specs.Areas.{Areas, all_cleared}
 use Rattle.method.specs.Layout.{laid}
 use Rattle.circuit.specs.Task.{Task, frames_in}
-use Rattle.limiting.specs.declared.Planning.{Planning}
-use Rattle.limiting.specs.declared.Planning.TheVariants.{Planned, Refused}
 use Rattle.limiting.specs.Questions.{last_questions}
 
 -- where the nets have these frames, the areas these contents, and the first "no" is n, or 0 for none
@@ -19,8 +17,3 @@ planned_by n fs a = outcome (unless n (totals_of fs)) (left_by n (laid fs a) (al
 -- of a task whose other questions have been answered yes
 unfoldable pub within_of : Task → ℕ → Areas → Outcome Totals Areas
 within_of task limit a = planned_by (first_no (last_questions limit (frames_in task))) (frames_in task) a
-
--- a `Planning` in the paper's terms: the totals, or the number alone
-unfoldable pub on_paper : Planning → Answer Totals
-on_paper (Planned t) = accepted t
-on_paper (Refused n) = refused n

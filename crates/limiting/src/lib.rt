@@ -5,53 +5,45 @@
 ghost use Rattle.std.specs.Prelude.{◌≡◌};
 ghost use Rattle.lists.specs.Outcome.{outcome};
 ghost use Rattle.method.specs.Areas.{areas};
+ghost use Rattle.method.specs.Refusals.{on_paper};
 ghost use Rattle.method.specs.Sums.{within_limit};
 ghost use Rattle.circuit.specs.File.{inputs_of, gates_of};
-ghost use Rattle.circuit.specs.Task.{task_of};
+ghost use Rattle.circuit.specs.Task.{task_in};
 ghost use Rattle.layout.specs.Steps.{Given};
-ghost use Rattle.limiting.specs.Planned.{on_paper, within_of};
+ghost use Rattle.limiting.specs.Planned.{within_of};
 
-use layout::Progress;
-use method::{Tick, Totals};
+use circuit::{InputsAndGates, Task};
+use method::{Refusal, Tick, Totals};
 use slices::is_between;
 
 // No limit may be above this.
 const MOST_TOTAL_FRAMES: u16 = 2048;
 
-// What planning answers: the totals, or the number of the first "no".
-#[derive(Clone, Copy)]
-pub enum Planning {
-    Planned(Totals),
-    Refused(u8),
-}
+// What planning answers: the totals, or the first "no".
+pub type Planning = Result<Totals, Refusal>;
 
 // Fills the areas with the frames of all nets, or, where there are too many, for any caller or for this one, with zeros. 22
 // comes after 13, so the limit is held against the total once all gates are planned.
 pub fn fill_within(
-    file: &[u8],
-    counts: &[u8],
-    changes: &[Tick],
+    task: Task,
     limit: u16,
-    inputs: u16,
-    gates: u16,
+    nets: InputsAndGates,
     directory: &mut [u16],
     times: &mut [Tick],
     inertial: &mut [u16],
     fanins: &mut [u16],
 ) -> Planning
-    requires { Given (task_of file.now counts.now changes.now) (areas directory.old times.old inertial.old fanins.old) × (inputs ≡ inputs_of file.now) × (gates ≡ gates_of file.now) }
-    ensures { outcome (on_paper result) (areas directory.new times.new inertial.new fanins.new) ≡ within_of (task_of file.now counts.now changes.now) limit (areas directory.old times.old inertial.old fanins.old) }
+    requires { Given (task_in task) (areas directory.old times.old inertial.old fanins.old) × (nets.inputs ≡ inputs_of task.file.now) × (nets.gates ≡ gates_of task.file.now) }
+    ensures { outcome (on_paper result) (areas directory.new times.new inertial.new fanins.new) ≡ within_of (task_in task.entry) limit (areas directory.old times.old inertial.old fanins.old) }
 {
-    let Progress::Planned(totals) = layout::fill(
-        file, counts, changes, inputs, gates, directory, times, inertial, fanins,
-    ) else {
-        return Planning::Refused(13);
-    };
+    let totals = layout::fill(task, nets, directory, times, inertial, fanins).ok_or(
+        Refusal::TooManyFrames,
+    )?;
     if !within_limit(limit, totals.frames) {
         clearing::clear_plan(directory, times, inertial, fanins);
-        return Planning::Refused(22);
+        return Err(Refusal::AboveLimit);
     }
-    Planning::Planned(totals)
+    Ok(totals)
 }
 
 // Question 22, by the frame total.

@@ -9,7 +9,7 @@ use native.Mathlib.Omega.{arith}
 use lib.Dec.{eqb, ltb}
 use lib.ListN.{length, drop}
 use borrow.Author.Tests.{eqb-true, eq-eqb, ne_eqb, le-ltb, lt-ltb, le-leb, lt-leb, not-true, not-false}
-use Rattle.lists.specs.Ladder.{◌or_else◌, first_no, accepted}
+use Rattle.lists.specs.Ladder.{◌or_else◌, first_no, accepted, refused}
 use Rattle.lists.specs.Front.{leading}
 use Rattle.lists.proofs.Choices.{and_left, and_right, between_low, between_yes, between_most_true}
 use Rattle.lists.proofs.Ladders.{numbered, asked, ask_yes, ask_no, all_asked, unless_none, unless_some}
@@ -20,11 +20,9 @@ use Rattle.method.specs.Words.{lanes, lane}
 use Rattle.method.proofs.Rising.{test_starts}
 use Rattle.method.proofs.Lasting.{last_leading, last_within}
 use Rattle.method.specs.Limits.{most_net_frames}
-use Rattle.looks.specs.declared.Seen.TheVariants as S
-use Rattle.looks.specs.declared.Counted.TheVariants as C
 use Rattle.looks.specs.declared.Sight as code
 use Rattle.looks.specs.Sight.{sight_at, sight, sight_on_paper}
-use Rattle.looks.specs.Look.{parts_suit, look_questions, level_of, count_of, seen_on_paper, counted_on_paper}
+use Rattle.looks.specs.Look.{parts_suit, look_questions, level_of, count_of}
 
 -- ---- the questions
 
@@ -92,23 +90,23 @@ module _ (times values : List ℕ) (L : ℕ) {r : ℕ} (f : r ≡ first_no (look
   pub answered : r ≡ 0 → Sound times values
   answered z = sound times values L (sym f ∙ z)
 
-  pub level_no : (t : ℕ) → (r ≡ 0 → ⊥) → seen_on_paper (S.Refused r) ≡ level_of times values L t
-  unfolding level_of seen_on_paper
+  pub level_no : (t : ℕ) → (r ≡ 0 → ⊥) → refused r ≡ level_of times values L t
+  unfolding level_of
   level_no t n = rw (← f) (sym (unless_some r _ n))
 
-  pub count_no : (r ≡ 0 → ⊥) → counted_on_paper (C.Refused r) ≡ count_of times values L
-  unfolding count_of counted_on_paper
+  pub count_no : (r ≡ 0 → ⊥) → refused r ≡ count_of times values L
+  unfolding count_of
   count_no n = rw (← f) (sym (unless_some r _ n))
 
   module _ (z : r ≡ 0) where
-    pub count_yes : {n : ℕ} → n ≡ changes (map (lane L) values) → counted_on_paper (C.Changes n) ≡ count_of times values L
-    unfolding count_of counted_on_paper
+    pub count_yes : {n : ℕ} → n ≡ changes (map (lane L) values) → accepted n ≡ count_of times values L
+    unfolding count_of
     count_yes {n} e = rw (← f, ← e) (sym (unless_none r n z))
 
     -- where the frame is the last one not later than t
     pub level_yes : (t : ℕ) {frame : ℕ} → frame ≡ last_frame times t → (s : code.Sight) → sight_on_paper s ≡ sight_at times (map (lane L) values) frame
-        → seen_on_paper (S.Level s) ≡ level_of times values L t
-    unfolding level_of sight seen_on_paper
+        → accepted (sight_on_paper s) ≡ level_of times values L t
+    unfolding level_of sight
     level_yes t e s q = rw (← f) (ap accepted (q ∙ ap (sight_at times (map (lane L) values)) e) ∙ sym (unless_none r _ z))
 
 -- ---- the frame

@@ -1,14 +1,13 @@
 -- Level and Count: what they ask of one net's parts, and what they answer.
-use Rattle.std.specs.Prelude.{ℕ, Bool, ◌&&◌, List, [], ◌∷◌, map, length, ltb, eqb}
+use Rattle.std.specs.Prelude.{ℕ, Bool, ◌&&◌, List, [], ◌∷◌, map, length, ltb, eqb, Result, Ok, Err}
 use Rattle.lists.specs.Ladder.{Question, ◌or_else◌, between, Answer, accepted, refused, answer}
 use Rattle.method.specs.Times.{start_and_rise}
 use Rattle.method.specs.Look.{changes}
 use Rattle.method.specs.Words.{lanes, lane}
 use Rattle.method.specs.Limits.{most_net_frames}
-use Rattle.looks.specs.declared.Seen.{Seen}
-use Rattle.looks.specs.declared.Seen.TheVariants as S
-use Rattle.looks.specs.declared.Counted.{Counted}
-use Rattle.looks.specs.declared.Counted.TheVariants as C
+use Rattle.method.specs.declared.Refusal.{Refusal}
+use Rattle.method.specs.Refusals.{number_of}
+use Rattle.looks.specs.declared.Sight as code
 use Rattle.looks.specs.Sight.{Sight, sight, sight_on_paper}
 
 -- 14: Are the parts equally long, 1 to 64?
@@ -34,12 +33,7 @@ level_part (refused n) = refused n
 unfoldable pub count_of : List ℕ → List ℕ → ℕ → Answer ℕ
 count_of times values L = answer (look_questions times values L) (changes (map (lane L) values))
 
--- a `Seen` in the paper's terms: the level with its frame's begin and end, or the number alone
-unfoldable pub seen_on_paper : Seen → Answer Sight
-seen_on_paper (S.Level s) = accepted (sight_on_paper s)
-seen_on_paper (S.Refused n) = refused n
-
--- a `Counted` in the paper's terms: how many changes, or the number alone
-unfoldable pub counted_on_paper : Counted → Answer ℕ
-counted_on_paper (C.Changes n) = accepted n
-counted_on_paper (C.Refused n) = refused n
+-- Level's result in the paper's terms: the level with its frame's begin and end, or the number alone
+unfoldable pub seen_on_paper : Result code.Sight Refusal → Answer Sight
+seen_on_paper (Ok s) = accepted (sight_on_paper s)
+seen_on_paper (Err r) = refused (number_of r)

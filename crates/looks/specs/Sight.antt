@@ -1,9 +1,8 @@
 -- What is seen of a net in one lane at a frame: the level, the time at which the frame began, and the time at which the next
 -- begins, or that there is no end.
-use Rattle.std.specs.Prelude.{ℕ, suc, Bool, false, List, [], ◌∷◌, get_or, drop}
+use Rattle.std.specs.Prelude.{ℕ, suc, Bool, false, List, [], ◌∷◌, get_or, drop, Option, Some, None}
 use Rattle.method.specs.Indices.{last_frame}
-use Rattle.looks.specs.declared.Until.{Until}
-use Rattle.looks.specs.declared.Until.TheVariants as U
+use Rattle.method.specs.declared.Time.{Time}
 use Rattle.looks.specs.declared.Sight as code
 
 -- when a frame ends: when the next begins, or never
@@ -31,9 +30,9 @@ sight times levels t = sight_at times levels (last_frame times t)
 
 -- ---- the code's types in these terms
 
-unfoldable pub end_on_paper : Until → End
-end_on_paper (U.Next t) = at t.0
-end_on_paper U.NoEnd = never
+unfoldable pub end_on_paper : Option Time → End
+end_on_paper (Some t) = at t.0
+end_on_paper None = never
 
 unfoldable pub sight_on_paper : code.Sight → Sight
 sight_on_paper s = record { level = s.level; began = s.began.0; end = end_on_paper s.until }

@@ -5,57 +5,45 @@ ghost use Rattle.method.specs.Times.{start_and_rise};
 ghost use Rattle.method.specs.Indices.{last_frame};
 ghost use Rattle.method.specs.Look as look;
 ghost use Rattle.method.specs.Words as bits;
+ghost use Rattle.method.specs.Refusals.{first_of};
 ghost use Rattle.method.specs.Limits.{most_net_frames};
 ghost use Rattle.looks.specs.Look.{look_questions};
 
-use method::{Frame, Tick, Time};
+use method::{Frame, Refusal, Tick, Time};
 
 // A net has at most this many frames.
 const MOST_NET_FRAMES: usize = 64;
 
 const LAST_LANE: u8 = 63;
 
-// Questions 14 to 16: the number of the first "no", or 0.
-pub(crate) fn look_fault(times: &[Tick], values: &[u64], lane: u8) -> u8
-    ensures { result ≡ first_no (look_questions times.now values.now lane) }
+// Questions 14 to 16.
+pub(crate) fn ask_look(times: &[Tick], values: &[u64], lane: u8) -> Result<(), Refusal>
+    ensures { first_of result ≡ first_no (look_questions times.now values.now lane) }
 {
     let frames = times.len();
     if frames != values.len() {
-        return 14;
+        return Err(Refusal::PartLengths);
     }
     if frames == 0 {
-        return 14;
+        return Err(Refusal::PartLengths);
     }
     if MOST_NET_FRAMES < frames {
-        return 14;
+        return Err(Refusal::PartLengths);
     }
     if !start_and_rise(times) {
-        return 15;
+        return Err(Refusal::TimesNotRising);
     }
     if LAST_LANE < lane {
-        return 16;
+        return Err(Refusal::NoLane);
     }
-    0
+    Ok(())
 }
 
 // Question 15.
 fn start_and_rise(times: &[Tick]) -> bool
     ensures { result ≡ start_and_rise times.now }
 {
-    if times.len() == 0 {
-        return false;
-    }
-    if times[0] != 0 {
-        return false;
-    }
-    let mut k = 1;
-    while k < times.len() {
-        if times[k] <= times[k - 1] {
-            return false;
-        }
-        k += 1;
-    }
-    true
+    times.first() == Some(&0) && times.is_sorted_by(|a, b| a < b)
 }
 
 // The last frame not later than the time. There is one, since time 0 is not later.
@@ -72,13 +60,8 @@ pub(crate) fn changes(values: &[u64], lane: u8) -> u16
     requires { length values.now ≤ most_net_frames }
     ensures { result ≡ look.changes (map (bits.lane lane) values.now) }
 {
-    let mut n: u16 = 0;
-    let mut k = 1;
-    while k < values.len() {
-        if words::bit_of(values[k], lane) != words::bit_of(values[k - 1], lane) {
-            n += 1;
-        }
-        k += 1;
-    }
-    n
+    values
+        .windows(2)
+        .filter(|pair| words::bit_of(pair[1], lane) != words::bit_of(pair[0], lane))
+        .count() as u16
 }

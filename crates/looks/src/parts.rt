@@ -37,15 +37,9 @@ fn span_of(directory: &[u16], net: Net, length: usize) -> Span
     ensures { (result.first ≡ min (first_frame directory.now net.0) length) × (result.end ≡ min (result.first + frame_count directory.now net.0) length) }
 {
     let pair = 2 * (net.0 as usize);
-    let first = least(entry_at(directory, pair) as usize, length);
+    let first = (entry_at(directory, pair) as usize).min(length);
     Span {
         first: first,
-        end: least(first + entry_at(directory, pair + 1) as usize, length),
+        end: (first + entry_at(directory, pair + 1) as usize).min(length),
     }
-}
-
-fn least(a: usize, b: usize) -> usize
-    ensures { result ≡ min a b }
-{
-    if a < b { a } else { b }
 }

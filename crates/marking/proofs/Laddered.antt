@@ -7,29 +7,25 @@ use mathlib.Core.List.{List, ◌∷◌}
 use native.Mathlib.Omega.{arith}
 use lib.Dec.{leb}
 use borrow.Author.Tests.{le-leb, lt-leb}
-use Rattle.lists.specs.Ladder.{Question, ◌or_else◌, first_no, unless}
+use Rattle.lists.specs.Ladder.{Question, ◌or_else◌, first_no, unless, refused, accepted, Answer}
 use Rattle.lists.specs.Outcome.{outcome}
 use Rattle.lists.proofs.Ladders.{is_number, numbered, each_append, first, first_here, first_none, first_no_append, first_no_behind, asked, ask_yes, ask_no, accepted_none, refused_some}
 use Rattle.lists.proofs.Leaving.{left_other, left_quiet}
 use Rattle.method.specs.WordLists.{WordLists, Lengths, lengths_of}
-use Rattle.editions.specs.declared.Reading.{Reading}
-use Rattle.editions.specs.declared.Reading.TheVariants as R
 use Rattle.circuit.specs.Questions as reader
 use Rattle.circuit.specs.Task.{Task, nets_in, frames_in}
 use Rattle.circuit.proofs.Parts.{circuit_inputs, gates_length}
 use Rattle.method.specs.declared.Totals.{Totals}
-use Rattle.limiting.specs.declared.Planning.{Planning}
-use Rattle.limiting.specs.declared.Planning.TheVariants as Q
 use Rattle.method.specs.Sums.{totals_of}
-use Rattle.limiting.specs.Planned.{on_paper}
 use Rattle.limiting.specs.Questions.{last_questions}
 use Rattle.engine.specs.Areas.{Areas}
 use Rattle.engine.specs.Questions.{first_questions, questions_of, questions}
 use Rattle.engine.specs.Run.{run_left, run_of}
-use Rattle.engine.proofs.Asking.{asked_no, asked_none, asked_inputs, asked_gates}
+use Rattle.engine.proofs.Asking.{asked_no, asked_none, asked_nets}
 use Rattle.engine.proofs.Answering.{first_quiet, first_numbered, run_is}
 use Rattle.marking.specs.Questions.{asked_with}
 use Rattle.marking.specs.Steps as steps
+use Rattle.editions.specs.declared.InputsAndGates.{InputsAndGates}
 
 module _ (task : Task) (limit : ℕ) (l : Lengths) (a : Areas) (suit : Bool) where
   abbrev last : List Question
@@ -82,23 +78,21 @@ module _ (task : Task) (limit : ℕ) (w : WordLists) (a : Areas) (suit : Bool) w
   unwritten {n} e l = sym (answers e ∙ ap (steps.asked n) l)
 
   -- what `questions` answered
-  module _ {r : Reading} (f : reader.on_paper r ≡ questions_of task (lengths_of w) a) where
-    pub early_no : {n : ℕ} → r ≡ R.Refused n → steps.asked n a ≡ steps.asked_of task limit w a suit
-    early_no {n} e =
-        let q = asked_no task (lengths_of w) a f e in
-        unwritten (ladder_early task limit (lengths_of w) a suit (λ z. q.1 (q.0 ∙ z)) ∙ sym q.0)
-        (left_quiet _ _ a (first_questions task (lengths_of w) a) (first_quiet task (lengths_of w) a) q.0 q.1)
+  pub early_no : {n : ℕ} → refused n ≡ questions_of task (lengths_of w) a → steps.asked n a ≡ steps.asked_of task limit w a suit
+  early_no {n} e =
+      let q = asked_no task (lengths_of w) a e in
+      unwritten (ladder_early task limit (lengths_of w) a suit (λ z. q.1 (q.0 ∙ z)) ∙ sym q.0)
+      (left_quiet _ _ a (first_questions task (lengths_of w) a) (first_quiet task (lengths_of w) a) q.0 q.1)
 
-    module _ {inputs gates : ℕ} (e : r ≡ R.Accepted inputs gates) where
-      pub unsuited_no : suit ≡ false → steps.asked 12 a ≡ steps.asked_of task limit w a suit
-      unsuited_no n = unwritten (ladder_12 task limit (lengths_of w) a suit (asked_none task (lengths_of w) a f e) n) (left_other _ _ a 12 (λ q. omega arith) refl)
+  pub unsuited_no : {s : InputsAndGates} → accepted s ≡ questions_of task (lengths_of w) a → suit ≡ false → steps.asked 12 a ≡ steps.asked_of task limit w a suit
+  unsuited_no e n = unwritten (ladder_12 task limit (lengths_of w) a suit (asked_none task (lengths_of w) a e) n) (left_other _ _ a 12 (λ q. omega arith) refl)
 
   -- what Run answers and leaves
-  module _ (y : suit ≡ true) (x : Planning) {b : Areas} (ran : outcome (on_paper x) b ≡ run_of task limit w a) where
+  module _ (y : suit ≡ true) {x : Answer Totals} {b : Areas} (ran : outcome x b ≡ run_of task limit w a) where
     abbrev run_no : ℕ
     run_no = first_no (questions task limit (lengths_of w) a)
 
-    answer_is : on_paper x ≡ unless run_no (totals_of (frames_in task))
+    answer_is : x ≡ unless run_no (totals_of (frames_in task))
     answer_is = (run_is task limit w a ran).0
 
     left_is : b ≡ left run_no
@@ -107,23 +101,17 @@ module _ (task : Task) (limit : ℕ) (w : WordLists) (a : Areas) (suit : Bool) w
     ends : {n : ℕ} → run_no ≡ n → steps.asked n b ≡ steps.asked_of task limit w a suit
     ends {n} e = sym (answers (ladder_run task limit (lengths_of w) a suit y ∙ e) ∙ ap (steps.asked n) (ap left (sym e) ∙ sym left_is))
 
-    pub run_refused : {n : ℕ} → x ≡ Q.Refused n → steps.asked n b ≡ steps.asked_of task limit w a suit
-    unfolding on_paper
-    run_refused {n} q = ends (refused_some run_no _ (sym answer_is ∙ ap on_paper q)).0
+  pub run_refused : suit ≡ true → {n : ℕ} {b : Areas} → outcome (refused n) b ≡ run_of task limit w a → steps.asked n b ≡ steps.asked_of task limit w a suit
+  run_refused y e = ends y e (refused_some (run_no y e) _ (sym (answer_is y e))).0
 
-    pub run_accepted : {totals : Totals} → x ≡ Q.Planned totals → steps.asked 0 b ≡ steps.asked_of task limit w a suit
-    unfolding on_paper
-    run_accepted q = ends (accepted_none run_no _ (sym answer_is ∙ ap on_paper q)).0
+  pub run_accepted : suit ≡ true → {totals : Totals} {b : Areas} → outcome (accepted totals) b ≡ run_of task limit w a → steps.asked 0 b ≡ steps.asked_of task limit w a suit
+  run_accepted y e = ends y e (accepted_none (run_no y e) _ (sym (answer_is y e))).0
 
 -- ---- question 12: whether there are as many nets as the list needs, by what `questions` answered
 
-module _ (task : Task) (l : Lengths) (a : Areas) {r : Reading} (f : reader.on_paper r ≡ questions_of task l a) {inputs gates : ℕ} (e : r ≡ R.Accepted inputs gates) where
-  nets_are : nets_in task ≡ inputs + gates
-  nets_are =
-      ap₂ ◌+◌ (circuit_inputs task.file ∙ sym (asked_inputs task l a f e)) (gates_length task.file ∙ sym (asked_gates task l a f e))
+module _ (task : Task) (l : Lengths) (a : Areas) {s : InputsAndGates} (e : accepted s ≡ questions_of task l a) where
+  pub too_few : {needed : ℕ} → s.inputs + s.gates < needed → leb needed (nets_in task) ≡ false
+  too_few {needed} h = rw (asked_nets task l a e) (lt-leb needed (s.inputs + s.gates) h)
 
-  pub too_few : {needed : ℕ} → inputs + gates < needed → leb needed (nets_in task) ≡ false
-  too_few {needed} h = rw nets_are (lt-leb needed (inputs + gates) h)
-
-  pub enough : {needed : ℕ} → needed ≤ inputs + gates → leb needed (nets_in task) ≡ true
-  enough {needed} h = rw nets_are (le-leb needed (inputs + gates) h)
+  pub enough : {needed : ℕ} → needed ≤ s.inputs + s.gates → leb needed (nets_in task) ≡ true
+  enough {needed} h = rw (asked_nets task l a e) (le-leb needed (s.inputs + s.gates) h)

@@ -7,7 +7,7 @@ use mathlib.Core.Bool.{Bool, true}
 use mathlib.Core.List.{List}
 use native.Mathlib.Omega.{arith}
 use lib.Dec.{leb}
-use Rattle.lists.specs.Ladder.{first_no, accepted, unless}
+use Rattle.lists.specs.Ladder.{first_no, accepted, unless, refused}
 use Rattle.lists.specs.Outcome.{outcome}
 use Rattle.lists.proofs.Ladders.{unless_none, unless_some}
 use Rattle.lists.proofs.Leaving.{left_none, accepted_left}
@@ -22,11 +22,9 @@ use Rattle.engine.proofs.Asking.{passed}
 use Rattle.engine.proofs.Accepted.{ran_filled}
 use Rattle.engine.proofs.After.{after_runs}
 use Rattle.expectations.specs.declared.Expectation.{Expectation}
-use Rattle.expectations.specs.declared.Marking.{Marking}
-use Rattle.expectations.specs.declared.Marking.TheVariants as M
 use Rattle.expectations.specs.Suits.{list_suits}
 use Rattle.marking.specs.Questions.{asked_with, questions}
-use Rattle.expectations.specs.Verdict.{Verdict, on_paper}
+use Rattle.expectations.specs.Verdict.{Verdict}
 use Rattle.marking.specs.Mark.{verdict, mark_of}
 use Rattle.expectations.specs.Steps.{nets_needed, searched}
 use Rattle.marking.specs.Steps.{Asked, asked, asked_of}
@@ -99,14 +97,13 @@ module _ (task : Task) (limit : ℕ) (w : WordLists) (a : Areas) {b : Areas} (li
       ap (λ (x : Asked). x.left) ran
       ∙ ap (λ (m : ℕ). run_left m task w a) (sym (ap (λ (x : Asked). x.number) ran))
 
-  pub mark_no : (r ≡ 0 → ⊥) → outcome (on_paper (M.Refused r)) b ≡ mark_of task limit w a list
-  unfolding on_paper
+  pub mark_no : (r ≡ 0 → ⊥) → outcome (refused r) b ≡ mark_of task limit w a list
   mark_no z = ap₂ outcome (sym (unless_some r (verdict task w list) z)) left_is ∙ sym (marks task limit w a list number_is)
 
-  pub mark_yes : r ≡ 0 → (x : Marking) → on_paper x ≡ accepted (searched b.plan.directory b.plan.times b.values list) → outcome (on_paper x) b ≡ mark_of task limit w a list
-  mark_yes z x e =
+  pub mark_yes : r ≡ 0 → {x : Verdict} → x ≡ searched b.plan.directory b.plan.times b.values list → outcome (accepted x) b ≡ mark_of task limit w a list
+  mark_yes z e =
       let yes = ladder_yes task limit (lengths_of w) a _ (number_is ∙ z) in
       let here : b ≡ filled task w a =
       left_is ∙ ap (λ (m : ℕ). run_left m task w a) z ∙ left_none (filled task w a) (all_cleared a) a in
       let found = searched_is task w (after_runs.after_run task w b (ran_filled task limit w a yes.1 here)) list yes.0 in
-      ap₂ outcome (e ∙ ap accepted found ∙ sym (unless_none r (verdict task w list) z)) left_is ∙ sym (marks task limit w a list number_is)
+      ap₂ outcome (ap accepted (e ∙ found) ∙ sym (unless_none r (verdict task w list) z)) left_is ∙ sym (marks task limit w a list number_is)

@@ -11,36 +11,59 @@
 // `cut` and stops, and so it does where it cannot read or write on, which standard error then says.
 #![tactic(auto)]
 
-mod circuits;
+ghost use Rattle.std.specs.Prelude.{◌≤◌, length};
+
 mod listing;
 
-use circuits::circuit_case;
+use listing::{list_of, show_marking};
 use std::io::{Eprint, Input, Print};
-use testbench::show_cut;
+use testbench::{Areas, Case, Cut, end_line, read_all, read_case, read_first, show_cut, show_sums};
 
-// No input has as many cases as there are turns.
 fn main(rt: HostRuntime) {
-    for _ in 0..u64::MAX {
-        if !next_case(&rt) {
-            return;
-        }
+    if show_cases(&rt).is_err() {
+        show_cut(&rt);
     }
 }
 
-// One case. False where the program stops.
-fn next_case(rt: &(impl Input + Print + Eprint)) -> bool {
-    let mut first = [0u8; 1];
-    let received = streams::read_input(rt, &mut first);
-    if received.failed {
-        show_cut(rt);
-        return false;
+// No input has as many cases as there are turns.
+fn show_cases(rt: &(impl Input + Print + Eprint)) -> Result<(), Cut> {
+    for _ in 0..u64::MAX {
+        let Some(expected) = read_first::<1>(rt)? else {
+            break;
+        };
+        show_case(rt, expected[0])?;
     }
-    if received.count == 0 {
-        return false;
+    Ok(())
+}
+
+fn show_case(rt: &(impl Input + Print + Eprint), expected: u8) -> Result<(), Cut> {
+    if 12 < expected {
+        return Err(Cut);
     }
-    let shown = circuit_case(rt, first[0]);
-    if !shown {
-        show_cut(rt);
-    }
-    shown
+    let case = read_case(rt)?;
+    let mut records = [0; 144];
+    let records = &mut records[..12 * usize::from(expected)];
+    read_all(rt, records)?;
+    show_mark(rt, &case, records);
+    end_line(rt)
+}
+
+fn show_mark(rt: &(impl Print + Eprint), case: &Case, records: &[u8])
+    requires { length records.now ≤ 144 }
+{
+    let head = case.head;
+    let mut areas = Areas::rubbish(head.rubbish());
+    let answer = marking::mark(
+        case.task(),
+        head.limit(),
+        &mut areas.directory[..head.directory_length()],
+        &mut areas.times[..head.times_length()],
+        &mut areas.inertial[..head.inertial_length()],
+        &mut areas.fanins[..head.fanins_length()],
+        &mut areas.values[..head.values_length()],
+        case.words(),
+        &list_of(records)[..records.len() / 12],
+    );
+    show_marking(rt, answer);
+    show_sums(rt, head, &areas);
 }

@@ -1,4 +1,5 @@
 -- Laws on circuits, frames, waves and words; every crate above cites them.
+pub mod Refused
 pub mod Taking
 pub mod Nets
 pub mod Rising

@@ -1,6 +1,7 @@
 -- What a circuit is, the method of potential-change frames, the time-by-time machine, and what holds between them.
 -- A circuit and what drives it.
 pub mod Kinds
+pub mod Refusals
 pub mod Circuit
 pub mod Nets
 pub mod Times

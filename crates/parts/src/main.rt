@@ -10,97 +10,45 @@
 // says.
 #![tactic(auto)]
 
-ghost use Rattle.std.specs.Prelude.{◌≤◌};
-
-mod print;
-
 use method::{Tick, Time};
-use print::{show_counted, show_seen};
 use std::io::{Eprint, Input, Print};
 use testbench::{
-    end_line, limited, read_ticks, read_words, show_cut, show_semicolon, tick_at_byte, wide,
+    Cut, FromBytes, end_line, read_first, read_list, show_counted, show_cut, show_seen,
+    show_semicolon,
 };
 
-// No input has as many cases as there are turns: each takes 7 bytes or more.
 fn main(rt: HostRuntime) {
+    if show_cases(&rt).is_err() {
+        show_cut(&rt);
+    }
+}
+
+// No input has as many cases as there are turns: each takes 7 bytes or more.
+fn show_cases(rt: &(impl Input + Print + Eprint)) -> Result<(), Cut> {
     for _ in 0..u64::MAX {
-        if !next_case(&rt) {
-            return;
-        }
+        let Some(head) = read_first(rt)? else {
+            break;
+        };
+        show_case(rt, head)?;
     }
+    Ok(())
 }
 
-// One case. False where the program stops.
-fn next_case(rt: &(impl Input + Print + Eprint)) -> bool {
-    let mut head = [0u8; 7];
-    let received = streams::read_input(rt, &mut head);
-    if received.failed {
-        return cut(rt);
+fn show_case(rt: &(impl Input + Print + Eprint), head: [u8; 7]) -> Result<(), Cut> {
+    if 80 < head[0] || 80 < head[1] {
+        return Err(Cut);
     }
-    let got = received.count;
-    if got == 0 {
-        return false;
-    }
-    if got < 7 {
-        return cut(rt);
-    }
-    if !show_case(rt, head) {
-        return cut(rt);
-    }
-    true
-}
-
-fn cut(rt: &(impl Print + Eprint)) -> bool {
-    show_cut(rt);
-    false
-}
-
-// False where the case is cut short or too large, and nothing is printed; and where its line cannot be written.
-fn show_case(rt: &(impl Input + Print + Eprint), head: [u8; 7]) -> bool {
-    if 80 < head[0] {
-        return false;
-    }
-    if 80 < head[1] {
-        return false;
-    }
-    let times = read_ticks(rt, times_count(head));
-    let values = read_words(rt, values_count(head));
-    if !(times.whole && values.whole) {
-        return false;
-    }
-    let t = times.list;
-    let v = values.list;
-    show_line(rt, head, t, v)
-}
-
-fn times_count(head: [u8; 7]) -> usize
-    ensures { result ≤ 80 }
-{
-    limited(wide(head[0]), 80)
-}
-
-fn values_count(head: [u8; 7]) -> usize
-    ensures { result ≤ 80 }
-{
-    limited(wide(head[1]), 80)
-}
-
-// Prints what Level and Count answer.
-fn show_line(
-    rt: &(impl Print + Eprint),
-    head: [u8; 7],
-    times: [Tick; 400],
-    values: [u64; 400],
-) -> bool {
-    let t = &times[0..times_count(head)];
-    let v = &values[0..values_count(head)];
+    let mut times: [Tick; 80] = [0; 80];
+    let mut values = [0u64; 80];
+    let times = &mut times[..usize::from(head[0])];
+    let values = &mut values[..usize::from(head[1])];
+    let timed = read_list(rt, times);
+    let valued = read_list(rt, values);
+    timed.and(valued)?;
     let lane = head[2];
-    show_seen(rt, looks::level(t, v, lane, time_of(head)));
+    let time = Time(Tick::at_byte(&head, 3));
+    show_seen(rt, looks::level(times, values, lane, time));
     show_semicolon(rt);
-    show_counted(rt, looks::count(t, v, lane));
+    show_counted(rt, looks::count(times, values, lane));
     end_line(rt)
-}
-
-fn time_of(head: [u8; 7]) -> Time {
-    Time(tick_at_byte(&head, 3))
 }

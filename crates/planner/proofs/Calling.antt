@@ -8,23 +8,20 @@ use native.Mathlib.Omega.{arith}
 use lib.Dec.{eqb}
 use lib.ListN.{length}
 use borrow.Author.Tests.{eqb-true, not-true, not-false}
-use Rattle.lists.specs.Ladder.{Question, ◌or_else◌, first_no, accepted, unless}
+use Rattle.lists.specs.Ladder.{Question, ◌or_else◌, first_no, accepted, unless, refused}
 use Rattle.lists.specs.Outcome.{left_by, outcome}
 use Rattle.lists.proofs.Choices.{and_left, and_right}
 use Rattle.lists.proofs.Ladders.{is_number, numbered, each_append, asked, ask_yes, ask_no, unless_some}
 use Rattle.lists.proofs.Leaving.{left_other, left_quiet, accepted_left}
 use Rattle.circuit.specs.File.{inputs_of, gates_of}
-use Rattle.editions.specs.declared.Reading.{Reading}
-use Rattle.editions.specs.declared.Reading.TheVariants as R
 use Rattle.circuit.specs.Questions as reader
 use Rattle.circuit.specs.Task.{Task, frames_in}
 use Rattle.method.specs.Changes.{changes_suit}
 use Rattle.circuit.proofs.Present.{questions_quiet, questions_numbered}
 use Rattle.circuit.proofs.Ahead.{own_none, file_read, own_decide, read_no, read_yes}
 use Rattle.method.specs.declared.Totals.{Totals}
-use Rattle.limiting.specs.declared.Planning.TheVariants as Q
 use Rattle.limiting.specs.Questions.{last_questions}
-use Rattle.limiting.specs.Planned.{planned_by, within_of, on_paper}
+use Rattle.limiting.specs.Planned.{planned_by, within_of}
 use Rattle.limiting.proofs.Last.{last_none}
 use Rattle.planner.specs.Limits.{directory_length, times_length, fanins_length}
 use Rattle.method.specs.Areas.{Areas, all_cleared}
@@ -37,6 +34,7 @@ use Rattle.layout.specs.Steps.{Given}
 use Rattle.method.proofs.Laying.{laid_lengths, laid_kept}
 use Rattle.layout.proofs.Accepted.{given_long}
 use Rattle.layout.proofs.Filling.{given_room, even_rows}
+use Rattle.editions.specs.declared.InputsAndGates.{InputsAndGates}
 
 -- ---- question 10 gives room for every plan that fits
 
@@ -89,8 +87,7 @@ module _ (task : Task) (limit : ℕ) (a : Areas) where
   unfolding plan_of
   planned e = rw e
 
-  refusal : {n : ℕ} → first_no (questions task limit a) ≡ n → 1 ≤ n → {b : Areas} → b ≡ left n → outcome (on_paper (Q.Refused n)) b ≡ plan_of task limit a
-  unfolding on_paper
+  refusal : {n : ℕ} → first_no (questions task limit a) ≡ n → 1 ≤ n → {b : Areas} → b ≡ left n → outcome (refused n) b ≡ plan_of task limit a
   refusal {n} e h l = sym (planned e ∙ rw (unless_some n (totals_of (frames_in task)) (λ z. omega arith), ← l))
 
   pub plan_numbered : numbered (questions task limit a) ≡ true
@@ -128,47 +125,46 @@ module _ (task : Task) (limit : ℕ) (a : Areas) where
     pub accepted_lengths : areas_suit b ≡ true
     accepted_lengths = plan_lengths task accepted_read a own.0 timed.0 plan_fits says.2
 
-  module _ {r : Reading} (f : reader.on_paper r ≡ reader.read_of task.file) where
-    -- 1 to 9
-    pub plan_read : {n : ℕ} → r ≡ R.Refused n → outcome (on_paper (Q.Refused n)) a ≡ plan_of task limit a
+  -- 1 to 9
+  pub plan_read : {n : ℕ} → refused n ≡ reader.read_of task.file → outcome (refused n) a ≡ plan_of task limit a
+  unfolding questions
+  plan_read {n} e =
+      let q = read_no task.file (own_questions task limit a) e in
+      refusal q.0 q.1 (sym (left_quiet _ _ a (reader.questions task.file) (questions_quiet task.file) (sym q.2) (λ z. omega (arith, q.1))))
+
+  module _ {s : InputsAndGates} (e : accepted s ≡ reader.read_of task.file) where
+    answered : (reader.read_of task.file ≡ accepted (record { inputs = inputs_of task.file; gates = gates_of task.file })) × (s.inputs ≡ inputs_of task.file) × (s.gates ≡ gates_of task.file)
+    answered = read_yes task.file (own_questions task limit a) e
+
+    rest : first_no (questions task limit a) ≡ first_no (own_questions task limit a)
     unfolding questions
-    plan_read {n} e =
-        let q = read_no task.file (own_questions task limit a) f e in
-        refusal q.0 q.1 (sym (left_quiet _ _ a (reader.questions task.file) (questions_quiet task.file) (sym q.2) (λ z. omega (arith, q.1))))
+    rest = own_decide task.file (own_questions task limit a) answered.0
 
-    module _ {inputs gates : ℕ} (e : r ≡ R.Accepted inputs gates) where
-      answered : (reader.read_of task.file ≡ accepted (record { inputs = inputs_of task.file; gates = gates_of task.file })) × (inputs ≡ inputs_of task.file) × (gates ≡ gates_of task.file)
-      answered = read_yes task.file (own_questions task limit a) f e
+    pub plan_10 : {ok : Bool} → ok ≡ areas_suit a → not ok ≡ true → outcome (refused 10) a ≡ plan_of task limit a
+    plan_10 {ok} is n =
+        refusal (rest ∙ ask_no (areas_suit a) 10 _ (sym is ∙ not-true ok n)) (omega arith) (sym (left_other _ _ a 10 (λ z. omega arith) refl))
 
-      rest : first_no (questions task limit a) ≡ first_no (own_questions task limit a)
-      unfolding questions
-      rest = own_decide task.file (own_questions task limit a) answered.0
+    module _ {ok : Bool} (is : ok ≡ areas_suit a) (y : not ok ≡ false) where
+      suits : areas_suit a ≡ true
+      suits = sym is ∙ not-false ok y
 
-      pub plan_10 : {ok : Bool} → ok ≡ areas_suit a → not ok ≡ true → outcome (on_paper (Q.Refused 10)) a ≡ plan_of task limit a
-      plan_10 {ok} is n =
-          refusal (rest ∙ ask_no (areas_suit a) 10 _ (sym is ∙ not-true ok n)) (omega arith) (sym (left_other _ _ a 10 (λ z. omega arith) refl))
+      pub plan_20 : {on : Bool} → on ≡ changes_suit s.inputs task.schedule → not on ≡ true → outcome (refused 20) a ≡ plan_of task limit a
+      plan_20 {on} at n =
+          refusal (rest ∙ ask_yes (areas_suit a) 10 _ suits ∙ ask_no (changes_suit (inputs_of task.file) task.schedule) 20 _ (rw answered.1 at (sym at ∙ not-true on n))) (omega arith)
+          (sym (left_other _ _ a 20 (λ z. omega arith) refl))
 
-      module _ {ok : Bool} (is : ok ≡ areas_suit a) (y : not ok ≡ false) where
-        suits : areas_suit a ≡ true
-        suits = sym is ∙ not-false ok y
+      module _ {on : Bool} (at : on ≡ changes_suit s.inputs task.schedule) (t : not on ≡ false) where
+        timely : changes_suit (inputs_of task.file) task.schedule ≡ true
+        timely = rw answered.1 at (sym at ∙ not-false on t)
 
-        pub plan_20 : {on : Bool} → on ≡ changes_suit inputs task.schedule → not on ≡ true → outcome (on_paper (Q.Refused 20)) a ≡ plan_of task limit a
-        plan_20 {on} at n =
-            refusal (rest ∙ ask_yes (areas_suit a) 10 _ suits ∙ ask_no (changes_suit (inputs_of task.file) task.schedule) 20 _ (rw answered.1 at (sym at ∙ not-true on n))) (omega arith)
-            (sym (left_other _ _ a 20 (λ z. omega arith) refl))
+        -- what filling asks
+        pub fill_given : Given task a × (s.inputs ≡ inputs_of task.file) × (s.gates ≡ gates_of task.file)
+        fill_given = (given_all task a answered.0 suits timely, answered.1, answered.2)
 
-        module _ {on : Bool} (at : on ≡ changes_suit inputs task.schedule) (t : not on ≡ false) where
-          timely : changes_suit (inputs_of task.file) task.schedule ≡ true
-          timely = rw answered.1 at (sym at ∙ not-false on t)
+        first_ones : first_no (questions task limit a) ≡ first_no last
+        first_ones = rest ∙ ask_yes (areas_suit a) 10 _ suits ∙ ask_yes (changes_suit (inputs_of task.file) task.schedule) 20 _ timely
 
-          -- what filling asks
-          pub fill_given : Given task a × (inputs ≡ inputs_of task.file) × (gates ≡ gates_of task.file)
-          fill_given = (given_all task a answered.0 suits timely, answered.1, answered.2)
-
-          first_ones : first_no (questions task limit a) ≡ first_no last
-          first_ones = rest ∙ ask_yes (areas_suit a) 10 _ suits ∙ ask_yes (changes_suit (inputs_of task.file) task.schedule) 20 _ timely
-
-          -- the rest is planning within the limit
-          pub plan_last : within_of task limit a ≡ plan_of task limit a
-          unfolding plan_of within_of
-          plan_last = ap (λ (n : ℕ). planned_by n (frames_in task) a) (sym first_ones)
+        -- the rest is planning within the limit
+        pub plan_last : within_of task limit a ≡ plan_of task limit a
+        unfolding plan_of within_of
+        plan_last = ap (λ (n : ℕ). planned_by n (frames_in task) a) (sym first_ones)

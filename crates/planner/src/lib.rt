@@ -4,15 +4,15 @@
 ghost use Rattle.std.specs.Prelude.{◌≡◌};
 ghost use Rattle.lists.specs.Outcome.{outcome};
 ghost use Rattle.method.specs.Areas.{areas};
-ghost use Rattle.circuit.specs.Task.{task_of};
+ghost use Rattle.method.specs.Refusals.{on_paper};
+ghost use Rattle.circuit.specs.Task.{task_in};
 ghost use Rattle.planner.specs.Questions.{areas_suit};
-ghost use Rattle.limiting.specs.Planned.{on_paper};
 ghost use Rattle.planner.specs.Plan.{plan_of};
 
-use circuit::Reading;
+use circuit::Task;
 pub use limiting::Planning;
 use limiting::fill_within;
-use method::Tick;
+use method::{Refusal, Tick};
 
 const DIRECTORY_LENGTH: usize = 320;
 
@@ -24,31 +24,23 @@ const FANINS_LENGTH: usize = 16384;
 // Plans the circuit of the file, whose inputs have these counts of changes and these change times, inputs in order, with no
 // more frames than the caller's limit: questions 1 to 10, then 20, 13 and 22.
 pub fn plan(
-    file: &[u8],
-    counts: &[u8],
-    changes: &[Tick],
+    task: Task,
     limit: u16,
     directory: &mut [u16],
     times: &mut [Tick],
     inertial: &mut [u16],
     fanins: &mut [u16],
 ) -> Planning
-    ensures { outcome (on_paper result) (areas directory.new times.new inertial.new fanins.new) ≡ plan_of (task_of file.now counts.now changes.now) limit (areas directory.old times.old inertial.old fanins.old) }
+    ensures { outcome (on_paper result) (areas directory.new times.new inertial.new fanins.new) ≡ plan_of (task_in task.entry) limit (areas directory.old times.old inertial.old fanins.old) }
 {
-    match circuit::read(file) {
-        Reading::Refused(n) => Planning::Refused(n),
-        Reading::Accepted { inputs, gates } => {
-            if !areas_suit(directory, times, inertial, fanins) {
-                return Planning::Refused(10);
-            }
-            if !stimulus::changes_suit(inputs, counts, changes) {
-                return Planning::Refused(20);
-            }
-            fill_within(
-                file, counts, changes, limit, inputs, gates, directory, times, inertial, fanins,
-            )
-        }
+    let read = circuit::read(task.file)?;
+    if !areas_suit(directory, times, inertial, fanins) {
+        return Err(Refusal::AreaLengths);
     }
+    if !stimulus::changes_suit(read.inputs, task.counts, task.changes) {
+        return Err(Refusal::ChangeTimes);
+    }
+    fill_within(task, limit, read, directory, times, inertial, fanins)
 }
 
 // Question 10, of Plan's four areas.

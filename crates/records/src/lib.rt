@@ -38,15 +38,14 @@ pub fn records_of(bytes: &[u8], count: usize) -> [Expectation; MOST_RECORDS]
         level: 0,
     };
     let mut list = [none; MOST_RECORDS];
-    let mut k = 0;
-    while k < count {
+    for k in 0..count {
         list[k] = record_at(bytes, RECORD_LENGTH * k);
-        k += 1;
     }
     list
 }
 
 // The record that starts at a place.
+#[tactic(auto, unfolding(crate::specs::Records::record_at))]
 fn record_at(bytes: &[u8], at: usize) -> Expectation
     requires { at ≤ 12288 }
     ensures { result ≡ record_at bytes.now at }
@@ -61,6 +60,7 @@ fn record_at(bytes: &[u8], at: usize) -> Expectation
 }
 
 // The time whose four bytes start at a place.
+#[tactic(auto, unfolding(crate::specs::Records::time_at))]
 fn time_at(bytes: &[u8], at: usize) -> Tick
     requires { at ≤ 12296 }
     ensures { result ≡ time_at bytes.now at }

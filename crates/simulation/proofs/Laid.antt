@@ -17,12 +17,14 @@ use Rattle.circuit.specs.File.{inputs_of}
 use Rattle.circuit.specs.Task.{Task, frames_in, all_packed_in}
 use Rattle.stimulus.proofs.Asked.{words_each}
 use Rattle.layout.proofs.Filling.{given_room}
-use Rattle.limiting.specs.declared.Planning.{Planning}
-use Rattle.limiting.specs.declared.Planning.TheVariants as Q
-use Rattle.limiting.specs.Planned.{within_of, on_paper}
-use Rattle.limiting.proofs.Within.{Over, Kept}
+use Rattle.limiting.specs.Planned.{within_of}
+use Rattle.limiting.proofs.Within.{Over, Kept, within_no, within_kept}
 use Rattle.evaluation.specs.Steps.{Planned, Driven}
 use Rattle.simulation.specs.Simulated.{Ready, Simulated}
+use Rattle.std.specs.Prelude.{Ok, Err}
+use Rattle.method.specs.declared.Refusal.{Refusal}
+use Rattle.method.specs.Refusals.{number_of}
+use Rattle.lists.specs.Ladder.{refused, accepted}
 
 module _ (task : Task) {l : Lengths} {a : Areas} {v : List ℕ} (h : Ready task l a v) {limit : ℕ} {d t i f : List ℕ} {totals : Totals} (k : Kept task limit a (areas d t i f) totals) where
   plan_frames : totals.frames ≡ length (all_times (frames_in task))
@@ -52,14 +54,16 @@ module _ (task : Task) {l : Lengths} {a : Areas} {v : List ℕ} (h : Ready task 
 
 -- ---- filled, and then evaluated or cleared
 
-module _ (task : Task) (limit : ℕ) (w : WordLists) {a a' : Areas} {v v' : List ℕ} {r : Planning} (e : outcome (on_paper r) a' ≡ within_of task limit a) where
-  pub simulated_no : {n : ℕ} → r ≡ Q.Refused n → Over task limit a a' n → v' ≡ cleared v → Simulated task limit w a v (Q.Refused n) a' v'
-  simulated_no {n} q o z =
+module _ (task : Task) (limit : ℕ) (w : WordLists) {a a' : Areas} {v v' : List ℕ} where
+  pub simulated_no : {q : Refusal} → outcome (refused (number_of q)) a' ≡ within_of task limit a → v' ≡ cleared v → Simulated task limit w a v (Err q) a' v'
+  simulated_no {q} e z =
+      let o : Over task limit a a' (number_of q) = within_no task limit a e in
       record {
-        plan = rw q at e;
-        values = z ∙ sym (rw o.number (left_clear (padded (length v) (all_packed_in task w)) (cleared v) v n o.some o.clears_all));
+        plan = e;
+        values = z ∙ sym (rw o.number (left_clear (padded (length v) (all_packed_in task w)) (cleared v) v (number_of q) o.some o.clears_all));
       }
 
-  pub simulated_yes : {totals : Totals} → r ≡ Q.Planned totals → Kept task limit a a' totals → v' ≡ padded (length v) (all_packed_in task w) → Simulated task limit w a v (Q.Planned totals) a' v'
-  simulated_yes q k words =
-      record { plan = rw q at e; values = words ∙ sym (rw k.number (left_none (padded (length v) (all_packed_in task w)) (cleared v) v)) }
+  pub simulated_yes : {totals : Totals} → outcome (accepted totals) a' ≡ within_of task limit a → v' ≡ padded (length v) (all_packed_in task w) → Simulated task limit w a v (Ok totals) a' v'
+  simulated_yes e words =
+      let k = within_kept task limit a e in
+      record { plan = e; values = words ∙ sym (rw k.number (left_none (padded (length v) (all_packed_in task w)) (cleared v) v)) }

@@ -1,5 +1,5 @@
 -- What a run behind its questions asks for, and what it leaves: in the plan's areas what planning leaves, and the values.
-use Rattle.std.specs.Prelude.{ℕ, ◌≤◌, ◌≡◌, true, List, length}
+use Rattle.std.specs.Prelude.{ℕ, ◌≤◌, ◌≡◌, true, List, length, Result}
 use Rattle.lists.specs.Ladder.{first_no}
 use Rattle.lists.specs.Outcome.{outcome, left_by}
 use Rattle.lists.specs.Areas.{cleared, padded}
@@ -10,9 +10,11 @@ use Rattle.method.specs.WordLists.{WordLists, Lengths, words_suit}
 use Rattle.circuit.specs.File.{inputs_of}
 use Rattle.circuit.specs.Task.{Task, frames_in, all_packed_in}
 use Rattle.layout.specs.Steps.{Given}
-use Rattle.limiting.specs.declared.Planning.{Planning}
+use Rattle.method.specs.declared.Totals.{Totals}
+use Rattle.method.specs.declared.Refusal.{Refusal}
+use Rattle.method.specs.Refusals.{on_paper}
 use Rattle.limiting.specs.Questions.{last_questions}
-use Rattle.limiting.specs.Planned.{within_of, on_paper}
+use Rattle.limiting.specs.Planned.{within_of}
 
 -- what filling the areas asks for, word lists of the right lengths, and a place in the values for each frame
 pub record Ready (task : Task) (l : Lengths) (a : Areas) (v : List ℕ) : Type 0 where
@@ -25,6 +27,6 @@ abbrev pub values_left : ℕ → Task → WordLists → List ℕ → List ℕ
 values_left n task w v = left_by n (padded (length v) (all_packed_in task w)) (cleared v) v
 
 -- r is answered, and a and v have become a' and v'
-pub record Simulated (task : Task) (limit : ℕ) (w : WordLists) (a : Areas) (v : List ℕ) (r : Planning) (a' : Areas) (v' : List ℕ) : Type 0 where
+pub record Simulated (task : Task) (limit : ℕ) (w : WordLists) (a : Areas) (v : List ℕ) (r : Result Totals Refusal) (a' : Areas) (v' : List ℕ) : Type 0 where
   pub plan : outcome (on_paper r) a' ≡ within_of task limit a
   pub values : v' ≡ values_left (first_no (last_questions limit (frames_in task))) task w v

@@ -4,47 +4,48 @@
 
 ghost use Rattle.std.specs.Prelude.{◌≡◌};
 ghost use Rattle.method.specs.Areas.{areas};
-ghost use Rattle.method.specs.WordLists.{word_lists, lengths_of};
+ghost use Rattle.method.specs.WordLists.{words_in, lengths_of};
 ghost use Rattle.circuit.specs.File.{inputs_of, gates_of};
-ghost use Rattle.circuit.specs.Task.{task_of};
+ghost use Rattle.circuit.specs.Task.{task_in};
 ghost use Rattle.simulation.specs.Simulated.{Ready, Simulated};
 
+use circuit::{InputsAndGates, Task};
 use limiting::{Planning, fill_within};
-use method::Tick;
+use method::{Tick, Words};
 
 // Plans and evaluates a circuit that has passed the questions before 13. What is behind the last frame is 0; so is everything if
 // there are too many frames, for any caller or for this one.
 pub fn simulate(
-    file: &[u8],
-    counts: &[u8],
-    changes: &[Tick],
+    task: Task,
     limit: u16,
-    inputs: u16,
-    gates: u16,
+    nets: InputsAndGates,
     directory: &mut [u16],
     times: &mut [Tick],
     inertial: &mut [u16],
     fanins: &mut [u16],
     values: &mut [u64],
-    before: &[u64],
-    after: &[u64],
+    words: Words,
 ) -> Planning
-    requires { Ready (task_of file.now counts.now changes.now) (lengths_of (word_lists before.now after.now)) (areas directory.old times.old inertial.old fanins.old) values.old × (inputs ≡ inputs_of file.now) × (gates ≡ gates_of file.now) }
-    ensures { Simulated (task_of file.now counts.now changes.now) limit (word_lists before.now after.now) (areas directory.old times.old inertial.old fanins.old) values.old result (areas directory.new times.new inertial.new fanins.new) values.new }
+    requires { Ready (task_in task) (lengths_of (words_in words)) (areas directory.old times.old inertial.old fanins.old) values.old × (nets.inputs ≡ inputs_of task.file.now) × (nets.gates ≡ gates_of task.file.now) }
+    ensures { Simulated (task_in task.entry) limit (words_in words.entry) (areas directory.old times.old inertial.old fanins.old) values.old result (areas directory.new times.new inertial.new fanins.new) values.new }
 {
-    match fill_within(
-        file, counts, changes, limit, inputs, gates, directory, times, inertial, fanins,
-    ) {
-        Planning::Refused(n) => {
-            clearing::clear_words(values);
-            Planning::Refused(n)
+    match fill_within(task, limit, nets, directory, times, inertial, fanins) {
+        Err(refusal) => {
+            clearing::clear(values);
+            Err(refusal)
         }
-        Planning::Planned(t) => {
+        Ok(totals) => {
             evaluation::evaluate(
-                file, counts, changes, inputs, gates, t.frames, directory, inertial, fanins,
-                values, before, after,
+                task,
+                nets,
+                totals.frames,
+                directory,
+                inertial,
+                fanins,
+                values,
+                words,
             );
-            Planning::Planned(t)
+            Ok(totals)
         }
     }
 }

@@ -8,7 +8,7 @@ use native.Mathlib.Omega.{arith}
 use lib.Dec.{eqb}
 use lib.ListN.{length}
 use borrow.Author.Tests.{ne_eqb}
-use Rattle.lists.specs.Ladder.{first_no, Answer, accepted}
+use Rattle.lists.specs.Ladder.{first_no, Answer, accepted, refused}
 use Rattle.lists.specs.Outcome.{Outcome, outcome, left_unless}
 use Rattle.lists.specs.Areas.{cleared, padded}
 use Rattle.lists.proofs.Ladders.{accepted_none, unless_some}
@@ -26,15 +26,16 @@ use Rattle.method.proofs.Parts.{nets_count, all_words}
 use Rattle.circuit.specs.Task.{Task, circuit_in, moments_in, frames_in, all_packed_in}
 use Rattle.circuit.proofs.Parts.{gates_length}
 use Rattle.layout.proofs.Filling.{even_rows}
-use Rattle.limiting.specs.declared.Planning.{Planning}
-use Rattle.limiting.specs.declared.Planning.TheVariants as Q
-use Rattle.limiting.specs.Planned.{within_of, on_paper}
+use Rattle.limiting.specs.Planned.{within_of}
 use Rattle.simulation.specs.Simulated.{Ready, Simulated}
 use Rattle.engine.specs.Areas.{Areas}
 use Rattle.engine.specs.Run.{filled}
 use Rattle.engine.proofs.Accepted.{Held, filled_plan, filled_values}
 use Rattle.sizes.specs.Fitted.{areas_fit, just_fits, fitted_questions, fitted_of, LeftByFitted}
 use Rattle.sizes.proofs.Asking.{Fits, fits_each, Passed, passed}
+use Rattle.std.specs.Prelude.{Result}
+use Rattle.method.specs.declared.Refusal.{Refusal}
+use Rattle.method.specs.Refusals.{on_paper}
 
 -- ---- there is room
 
@@ -71,11 +72,11 @@ module _ (task : Task) (limit : ℕ) (l : Lengths) (a : Areas) (e : first_no (fi
 -- ---- what is answered and left
 
 module _ (task : Task) (limit : ℕ) (w : WordLists) (a : Areas) where
-  pub fitted_no : {n : ℕ} → n ≡ first_no (fitted_questions task limit (lengths_of w) a) → (n ≡ 0 → ⊥) → outcome (on_paper (Q.Refused n)) a ≡ fitted_of task limit w a
-  unfolding on_paper fitted_of left_unless
+  pub fitted_no : {n : ℕ} → n ≡ first_no (fitted_questions task limit (lengths_of w) a) → (n ≡ 0 → ⊥) → outcome (refused n) a ≡ fitted_of task limit w a
+  unfolding fitted_of left_unless
   fitted_no {n} e some = sym (rw (← e, unless_some n (totals_of (frames_in task)) some, ne_eqb n 0 some))
 
-  pub fitted_yes : first_no (fitted_questions task limit (lengths_of w) a) ≡ 0 → {r : Planning} {p : plan.Areas} {v : List ℕ} → Simulated task limit w a.plan a.values r p v
+  pub fitted_yes : first_no (fitted_questions task limit (lengths_of w) a) ≡ 0 → {r : Result Totals Refusal} {p : plan.Areas} {v : List ℕ} → Simulated task limit w a.plan a.values r p v
       → outcome (on_paper r) (record { plan = p; values = v }) ≡ fitted_of task limit w a
   unfolding within_of fitted_of left_unless filled
   fitted_yes e {r} {p} {v} s =

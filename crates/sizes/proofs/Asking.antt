@@ -15,23 +15,19 @@ use Rattle.method.specs.declared.Totals.{Totals}
 use Rattle.method.specs.Changes.{changes_suit}
 use Rattle.method.specs.Sums.{fits, totals_of}
 use Rattle.method.specs.WordLists.{Lengths, words_suit}
-use Rattle.editions.specs.declared.Reading.{Reading}
-use Rattle.editions.specs.declared.Reading.TheVariants as R
 use Rattle.circuit.specs.File.{inputs_of, gates_of}
 use Rattle.circuit.specs.Questions as reader
 use Rattle.circuit.specs.Task.{Task, nets_in, frames_in}
 use Rattle.circuit.proofs.Present.{questions_numbered}
 use Rattle.circuit.proofs.Parts.{circuit_inputs, gates_length}
 use Rattle.circuit.proofs.Ahead as ahead
-use Rattle.limiting.specs.declared.Planning.{Planning}
-use Rattle.limiting.specs.declared.Planning.TheVariants as Q
 use Rattle.limiting.specs.Questions.{last_questions}
-use Rattle.limiting.specs.Planned.{on_paper}
 use Rattle.limiting.proofs.Last.{last_none}
 use Rattle.limiting.proofs.Within.{last_no}
 use Rattle.engine.specs.Areas.{Areas, areas}
 use Rattle.sizes.specs.Fitted.{areas_fit, just_fits, own_questions, fitted_questions}
 use Rattle.sizes.specs.Steps.{totals_within, questions_of}
+use Rattle.editions.specs.declared.InputsAndGates.{InputsAndGates}
 
 -- ---- question 10
 
@@ -115,32 +111,30 @@ module _ (task : Task) (limit : ℕ) (l : Lengths) (a : Areas) where
         past_20 : first_no (own_questions task limit l a) ≡ first (last_no task limit) (first_no ((just_fits task a or_else 10) ∷ []))
         past_20 = past_11 ∙ ask_yes (changes_suit (inputs_of task.file) task.schedule) 20 _ changes_yes ∙ last_joined
 
-        module _ {r : Planning} (f : on_paper r ≡ totals_within task limit) where
-          pub last_no_lem : {n : ℕ} → r ≡ Q.Refused n → n ≡ first_no (own_questions task limit l a)
-          unfolding on_paper totals_within
-          last_no_lem {n} e =
-              let g : unless (last_no task limit) (totals_of (frames_in task)) ≡ refused n = sym f ∙ rw e in
-              let q = refused_some (last_no task limit) (totals_of (frames_in task)) g in
-              sym (past_20 ∙ rw q.0 (first_here n _ (λ z. omega (arith, q.1))))
+        pub last_no_lem : {n : ℕ} → refused n ≡ totals_within task limit → n ≡ first_no (own_questions task limit l a)
+        unfolding totals_within
+        last_no_lem {n} f =
+            let q = refused_some (last_no task limit) (totals_of (frames_in task)) (sym f) in
+            sym (past_20 ∙ rw q.0 (first_here n _ (λ z. omega (arith, q.1))))
 
-          module _ {t : Totals} (e : r ≡ Q.Planned t) {nets : ℕ} (n : nets ≡ inputs + gates) {ok : Bool} (is : ok ≡ areas_fit nets t a) where
-            answered : (last_no task limit ≡ 0) × (totals_of (frames_in task) ≡ t)
-            unfolding on_paper totals_within
-            answered = accepted_none (last_no task limit) (totals_of (frames_in task)) (sym f ∙ rw e)
+        module _ {t : Totals} (f : accepted t ≡ totals_within task limit) {nets : ℕ} (n : nets ≡ inputs + gates) {ok : Bool} (is : ok ≡ areas_fit nets t a) where
+          answered : (last_no task limit ≡ 0) × (totals_of (frames_in task) ≡ t)
+          unfolding totals_within
+          answered = accepted_none (last_no task limit) (totals_of (frames_in task)) (sym f)
 
-            fitted : ok ≡ just_fits task a
-            fitted =
-                let m : nets ≡ nets_in task = omega (arith, n, i, g, circuit_inputs task.file, gates_length task.file) in
-                is ∙ ap₂ (λ (k : ℕ) (x : Totals). areas_fit k x a) m (sym answered.1)
+          fitted : ok ≡ just_fits task a
+          fitted =
+              let m : nets ≡ nets_in task = omega (arith, n, i, g, circuit_inputs task.file, gates_length task.file) in
+              is ∙ ap₂ (λ (k : ℕ) (x : Totals). areas_fit k x a) m (sym answered.1)
 
-            past_22 : first_no (own_questions task limit l a) ≡ first_no ((just_fits task a or_else 10) ∷ [])
-            past_22 = past_20 ∙ rw answered.0
+          past_22 : first_no (own_questions task limit l a) ≡ first_no ((just_fits task a or_else 10) ∷ [])
+          past_22 = past_20 ∙ rw answered.0
 
-            pub fit_no : not ok ≡ true → 10 ≡ first_no (own_questions task limit l a)
-            fit_no z = sym (past_22 ∙ ask_no (just_fits task a) 10 [] (sym fitted ∙ not-true ok z))
+          pub fit_no : not ok ≡ true → 10 ≡ first_no (own_questions task limit l a)
+          fit_no z = sym (past_22 ∙ ask_no (just_fits task a) 10 [] (sym fitted ∙ not-true ok z))
 
-            pub fit_yes : not ok ≡ false → 0 ≡ first_no (own_questions task limit l a)
-            fit_yes z = sym (past_22 ∙ ask_yes (just_fits task a) 10 [] (sym fitted ∙ not-false ok z) ∙ all_asked)
+          pub fit_yes : not ok ≡ false → 0 ≡ first_no (own_questions task limit l a)
+          fit_yes z = sym (past_22 ∙ ask_yes (just_fits task a) 10 [] (sym fitted ∙ not-false ok z) ∙ all_asked)
 
 -- ---- all questions, as `questions` answers them
 
@@ -152,33 +146,31 @@ module _ (task : Task) (limit : ℕ) (l : Lengths) (a : Areas) where
   unfolding fitted_questions
   fitted_numbered = each_append is_number (reader.questions task.file) own (questions_numbered task.file) refl
 
-  module _ {r : Reading} (f : reader.on_paper r ≡ reader.read_of task.file) where
-    pub reader_no : {n : ℕ} → r ≡ R.Refused n → reader.on_paper (R.Refused n) ≡ questions_of task limit l a
-    unfolding questions_of fitted_questions
-    reader_no e = ahead.reader_no task.file own f e
+  pub reader_no : {n : ℕ} → refused n ≡ reader.read_of task.file → refused n ≡ questions_of task limit l a
+  unfolding questions_of fitted_questions
+  reader_no e = ahead.reader_no task.file own e
 
-    module _ {inputs gates : ℕ} (e : r ≡ R.Accepted inputs gates) where
-      pub reader_yes : (reader.read_of task.file ≡ accepted (record { inputs = inputs_of task.file; gates = gates_of task.file })) × (inputs ≡ inputs_of task.file) × (gates ≡ gates_of task.file)
-      reader_yes = ahead.read_yes task.file own f e
+  module _ {s : InputsAndGates} (e : accepted s ≡ reader.read_of task.file) where
+    pub reader_yes : (reader.read_of task.file ≡ accepted (record { inputs = inputs_of task.file; gates = gates_of task.file })) × (s.inputs ≡ inputs_of task.file) × (s.gates ≡ gates_of task.file)
+    reader_yes = ahead.read_yes task.file own e
 
-      module _ {n : ℕ} (is : n ≡ first_no own) where
-        pub own_no : (n ≡ 0 → ⊥) → reader.on_paper (R.Refused n) ≡ questions_of task limit l a
-        unfolding questions_of fitted_questions
-        own_no some = ahead.own_no task.file own f e is some
+    module _ {n : ℕ} (is : n ≡ first_no own) where
+      pub own_no : (n ≡ 0 → ⊥) → refused n ≡ questions_of task limit l a
+      unfolding questions_of fitted_questions
+      own_no some = ahead.own_no task.file own e is some
 
-        pub own_yes : n ≡ 0 → reader.on_paper (R.Accepted inputs gates) ≡ questions_of task limit l a
-        unfolding questions_of fitted_questions
-        own_yes z = ahead.own_yes task.file own f e is z
+      pub own_yes : n ≡ 0 → accepted s ≡ questions_of task limit l a
+      unfolding questions_of fitted_questions
+      own_yes z = ahead.own_yes task.file own e is z
 
   -- what their answer says
-  module _ {r : Reading} (f : reader.on_paper r ≡ questions_of task limit l a) where
-    pub asked_no : {n : ℕ} → r ≡ R.Refused n → (n ≡ first_no (fitted_questions task limit l a)) × (n ≡ 0 → ⊥)
-    unfolding questions_of fitted_questions
-    asked_no e = ahead.asked_no task.file own f e
+  pub asked_no : {n : ℕ} → refused n ≡ questions_of task limit l a → (n ≡ first_no (fitted_questions task limit l a)) × (n ≡ 0 → ⊥)
+  unfolding questions_of fitted_questions
+  asked_no e = ahead.asked_no task.file own e
 
-    pub asked_yes : {inputs gates : ℕ} → r ≡ R.Accepted inputs gates → (first_no (fitted_questions task limit l a) ≡ 0) × (inputs ≡ inputs_of task.file) × (gates ≡ gates_of task.file)
-    unfolding questions_of fitted_questions
-    asked_yes e = ahead.asked_yes task.file own f e
+  pub asked_yes : {s : InputsAndGates} → accepted s ≡ questions_of task limit l a → (first_no (fitted_questions task limit l a) ≡ 0) × (s.inputs ≡ inputs_of task.file) × (s.gates ≡ gates_of task.file)
+  unfolding questions_of fitted_questions
+  asked_yes e = ahead.asked_yes task.file own e
 
 -- ---- all answered yes
 

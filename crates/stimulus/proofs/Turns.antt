@@ -1,13 +1,15 @@
--- The turns of the loops: a test of every entry, the counts added up, the times of one input, and input by input.
+-- The counts added up, and the turns of the loops: the times of one input, and input by input.
 -- Assumes nothing.
-use Prim.Native.Nat.{ℕ, ◌+◌, ◌-◌, ◌≤◌, ◌<◌}
-use mathlib.Core.Path.{◌≡◌, sym, ◌∙◌}
+use Prim.Native.Nat.{ℕ, zero, suc, ◌+◌, ◌-◌, ◌≤◌, ◌<◌}
+use mathlib.Core.Path.{◌≡◌, refl, sym, ◌∙◌}
 use mathlib.Core.Bool.{Bool, true, false, not}
 use mathlib.Core.List.{List, map}
 use native.Mathlib.Omega.{arith}
 use native.Mathlib.Numerals.{add-one}
+use Rattle.std.specs.List.{sum}
+use Rattle.std.proofs.lemmas.List.Sums.{sum_by_more}
 use lib.ListN.{length, get_or, take, drop, drop_of_length-le}
-use lib.Seq.{drop-cons}
+use lib.Seq.{drop-cons, take_all}
 use borrow.Author.Tests.{lt-ltb, le-ltb, not-true, not-false}
 use Rattle.lists.specs.Tables.{tabulate_from, every}
 use Rattle.lists.proofs.Tabled.{from_step, from_end}
@@ -15,24 +17,17 @@ use Rattle.method.specs.Times.{rise_above}
 use Rattle.method.specs.Changes.{schedule, start_of, moments_from}
 use Rattle.method.proofs.Changes.{start_mono}
 
--- at place k, all entries before it having passed the test
-module _ (p : ℕ → Bool) (xs : List ℕ) (k : ℕ) {w : Bool} (h : w ≡ every (map p (drop k xs))) where
-  pub each_no : k < length xs → p (get_or xs k 0) ≡ false → false ≡ w
-  each_no l n = sym (h ∙ rw (drop-cons xs k 0 l, n))
-
-  pub each_on : k < length xs → p (get_or xs k 0) ≡ true → w ≡ every (map p (drop (k + 1) xs))
-  each_on l y = h ∙ rw (add-one k, drop-cons xs k 0 l, y)
-
-  pub each_end : length xs ≤ k → true ≡ w
-  each_end l = sym (h ∙ rw (drop_of_length-le xs l))
-
 -- behind the times of input i start those of the next
 pub start_next : (counts : List ℕ) (i : ℕ) {s : ℕ} → s ≡ start_of counts i → s + get_or counts i 0 ≡ start_of counts (i + 1)
 start_next counts i e = rw (add-one i, e)
 
--- behind the last input's times is where they all end
-pub start_end : (counts : List ℕ) (i : ℕ) → i ≤ length counts → length counts ≤ i → {s : ℕ} → s ≡ start_of counts i → s ≡ start_of counts (length counts)
-start_end counts i a b e = e ∙ rw (let q : length counts ≡ i = omega arith in q)
+-- all counts added up
+sum_to : (counts : List ℕ) (i : ℕ) → i ≤ length counts → sum (take i counts) ≡ start_of counts i
+sum_to counts zero h = refl
+sum_to counts (suc i) h = rw (← add-one i, sum_by_more (λ (n : ℕ). n) counts i 0 (omega arith), sum_to counts i (omega arith))
+
+pub sum_is : (counts : List ℕ) → sum counts ≡ start_of counts (length counts)
+sum_is counts = rw (take_all (length counts) counts (omega arith)) at (sum_to counts (length counts) (omega arith))
 
 -- at place k of one input's times, those before it rising to `last`
 module _ (times : List ℕ) (last k : ℕ) {w : Bool} (h : w ≡ rise_above last (drop k times)) where

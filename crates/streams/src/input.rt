@@ -5,41 +5,29 @@ ghost use Rattle.io.specs.Counts.{IsPrefixLen};
 use crate::may_try_again;
 use std::io::{Eprint, Error, ErrorKind, Input, Read, Result};
 
-// How many bytes came, and whether a read failed behind them.
-#[derive(Drop)]
-pub struct Received {
-    pub count: usize,
-    pub failed: bool,
+// Fills the bytes from the input, or as many as it has, in as many pieces as they come in, and answers how many came. Where a
+// read fails, standard error has said so.
+pub fn read_input(rt: &(impl Input + Eprint), bytes: &mut [u8]) -> Result<usize>
+    ensures { IfOk result (λ n. IsPrefixLen n bytes.new) }
+{
+    read_pieces(&mut rt.reader(), bytes).inspect_err(|error| say_unread(rt, error))
 }
 
-// Fills the bytes from the input, or as many as it has, in as many pieces as they come in.
-pub fn read_input(rt: &(impl Input + Eprint), bytes: &mut [u8]) -> Received
-    ensures { IsPrefixLen result.count bytes.new }
+// A loop of our own: `read_exact` would give up where a read has to wait, and says nothing of how far it came.
+fn read_pieces(reader: &mut impl Read, bytes: &mut [u8]) -> Result<usize>
+    ensures { IfOk result (λ n. IsPrefixLen n bytes.new) }
 {
-    let mut reader = rt.reader();
     let len = bytes.len();
     let mut done = 0;
+    // No `for`: how far a piece goes is known once it has come.
     while done < len {
-        match read_piece(&mut reader, &mut bytes[done..len]) {
-            Ok(more) => {
-                if more == 0 {
-                    break;
-                }
-                done += more;
-            }
-            Err(error) => {
-                say_unread(rt, &error);
-                return Received {
-                    count: done,
-                    failed: true,
-                };
-            }
+        let more = read_piece(reader, &mut bytes[done..len])?;
+        if more == 0 {
+            break;
         }
+        done += more;
     }
-    Received {
-        count: done,
-        failed: false,
-    }
+    Ok(done)
 }
 
 // One read, made again as long as that may help. No bytes at the end of the input. A proved loop has to end, so the turns are
@@ -49,12 +37,8 @@ fn read_piece(reader: &mut impl Read, part: &mut [u8]) -> Result<usize>
 {
     for _ in 0..u64::MAX {
         match reader.read(part) {
-            Ok(more) => return Ok(more),
-            Err(error) => {
-                if !may_try_again(&error) {
-                    return Err(error);
-                }
-            }
+            Err(error) if may_try_again(&error) => {}
+            answer => return answer,
         }
     }
     Err(Error::from(ErrorKind::WouldBlock))

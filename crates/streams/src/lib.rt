@@ -6,17 +6,19 @@
 mod input;
 mod output;
 
-pub use input::{Received, read_input};
+pub use input::read_input;
 pub use output::{say, write_decimal, write_hex, write_output};
 use std::io::{Error, ErrorKind};
 use std::thread::yield_now;
 
 // Whether the call that has failed so is to be made again. Where it would have to wait, others run first.
 fn may_try_again(error: &Error) -> bool {
-    let kind = error.kind();
-    if kind == ErrorKind::WouldBlock {
-        yield_now();
-        return true;
+    match error.kind() {
+        ErrorKind::WouldBlock => {
+            yield_now();
+            true
+        }
+        ErrorKind::Interrupted => true,
+        _ => false,
     }
-    kind == ErrorKind::Interrupted
 }

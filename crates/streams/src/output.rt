@@ -4,26 +4,25 @@ ghost use Rattle.std.specs.Prelude.{◌≤◌, length, IfOk};
 use crate::may_try_again;
 use std::io::{Eprint, Error, ErrorKind, Print, Result, Stderr};
 
-// Writes all the bytes, in as many pieces as are taken. False where a write fails; some of them may have been written then.
-pub fn write_output(rt: &(impl Print + Eprint), bytes: &[u8]) -> bool {
+// Writes all the bytes, in as many pieces as are taken. Where a write fails, standard error has said so; some of the bytes may
+// have been written then.
+pub fn write_output(rt: &(impl Print + Eprint), bytes: &[u8]) -> Result<()> {
+    write_pieces(rt, bytes).inspect_err(|error| say_unwritten(rt, error))
+}
+
+// A loop of our own: `write_all` would give up where a write has to wait.
+fn write_pieces(rt: &impl Print, bytes: &[u8]) -> Result<()> {
     let len = bytes.len();
     let mut done = 0;
+    // No `for`: how far a piece goes is known once it has been taken.
     while done < len {
-        match write_piece(rt, &bytes[done..len]) {
-            Ok(more) => {
-                if more == 0 {
-                    say_unwritten(rt, &Error::from(ErrorKind::WriteZero));
-                    return false;
-                }
-                done += more;
-            }
-            Err(error) => {
-                say_unwritten(rt, &error);
-                return false;
-            }
+        let more = write_piece(rt, &bytes[done..len])?;
+        if more == 0 {
+            return Err(Error::from(ErrorKind::WriteZero));
         }
+        done += more;
     }
-    true
+    Ok(())
 }
 
 // One write, made again as long as that may help: how many bytes were taken. The turns are counted as those of a read are.
@@ -32,12 +31,8 @@ fn write_piece(rt: &impl Print, part: &[u8]) -> Result<usize>
 {
     for _ in 0..u64::MAX {
         match rt.write_some(part) {
-            Ok(more) => return Ok(more),
-            Err(error) => {
-                if !may_try_again(&error) {
-                    return Err(error);
-                }
-            }
+            Err(error) if may_try_again(&error) => {}
+            answer => return answer,
         }
     }
     Err(Error::from(ErrorKind::WouldBlock))
@@ -49,14 +44,14 @@ fn say_unwritten(rt: &impl Eprint, error: &Error) {
 }
 
 // Writes the number in decimal, and answers as write_output does.
-pub fn write_decimal(rt: &(impl Print + Eprint), n: u64) -> bool {
+pub fn write_decimal(rt: &(impl Print + Eprint), n: u64) -> Result<()> {
     let mut text = [0u8; 20];
     let k = io::decimal(n, &mut text);
     write_output(rt, &text[..k])
 }
 
 // Writes the number in hexadecimal, with zeros in front up to the width, and answers as write_output does.
-pub fn write_hex(rt: &(impl Print + Eprint), n: u64, width: usize) -> bool {
+pub fn write_hex(rt: &(impl Print + Eprint), n: u64, width: usize) -> Result<()> {
     let mut text = [0u8; 16];
     let k = io::hex(n, width, &mut text);
     write_output(rt, &text[..k])

@@ -15,38 +15,61 @@
 // then says.
 #![tactic(auto)]
 
-mod circuits;
 mod loads;
 mod print;
 
-use circuits::circuit_case;
+use charge_numbers::{charge_on, numbers_suit};
+use loads::{First, Loads, read_loads};
+use print::show_charged;
 use std::io::{Eprint, Input, Print};
-use testbench::show_cut;
+use testbench::{Areas, Case, Cut, end_line, read_case, show_cut, show_refused, show_sums};
 
-// No input has as many cases as there are turns.
 fn main(rt: HostRuntime) {
-    for _ in 0..u64::MAX {
-        if !next_case(&rt) {
-            return;
-        }
+    if show_cases(&rt).is_err() {
+        show_cut(&rt);
     }
 }
 
-// One case. False where the program stops.
-fn next_case(rt: &(impl Input + Print + Eprint)) -> bool {
-    let mut first = [0u8; 5];
-    let received = streams::read_input(rt, &mut first);
-    if received.failed {
-        show_cut(rt);
-        return false;
+// No input has as many cases as there are turns.
+fn show_cases(rt: &(impl Input + Print + Eprint)) -> Result<(), Cut> {
+    for _ in 0..u64::MAX {
+        let mut first = [0; 5];
+        let count = streams::read_input(rt, &mut first)?;
+        if count == 0 {
+            break;
+        }
+        let case = read_case(rt);
+        let loads = read_loads(rt, First(first));
+        if count < 5 {
+            return Err(Cut);
+        }
+        show_charge(rt, &case?, &loads?);
+        end_line(rt)?;
     }
-    let got = received.count;
-    if got == 0 {
-        return false;
+    Ok(())
+}
+
+// The call, or 100 where the numbers are no list of loads.
+fn show_charge(rt: &(impl Print + Eprint), case: &Case, loads: &Loads) {
+    let head = case.head;
+    let mut areas = Areas::rubbish(head.rubbish());
+    if numbers_suit(loads.cases(), loads.charges()) {
+        let answer = charge_on(
+            case.task(),
+            head.limit(),
+            &mut areas.directory[..head.directory_length()],
+            &mut areas.times[..head.times_length()],
+            &mut areas.inertial[..head.inertial_length()],
+            &mut areas.fanins[..head.fanins_length()],
+            &mut areas.values[..head.values_length()],
+            case.words(),
+            loads.cases(),
+            loads.charges(),
+            loads.first.lane(),
+        );
+        show_charged(rt, answer);
+    } else {
+        show_refused(rt, 100);
     }
-    let shown = circuit_case(rt, first, got == 5);
-    if !shown {
-        show_cut(rt);
-    }
-    shown
+    show_sums(rt, head, &areas);
 }

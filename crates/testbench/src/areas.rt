@@ -1,158 +1,110 @@
 // The areas: filled with rubbish before a call, and summed as the call leaves them. The rules stand in lib.rt.
-ghost use Rattle.std.specs.Prelude.{◌≡◌, ◌<◌, length};
-
-use crate::head::{
-    Head, directory_length, fanins_length, inertial_length, times_length, values_length,
-};
-use crate::input::limited;
+use crate::head::Head;
 use crate::print::show_number;
 use method::Tick;
 use std::io::{Eprint, Print};
 
-pub fn rubbish_directory(rubbish: u16) -> [u16; 400]
-    ensures { 400 ≡ length result }
-{
-    let mut area = [0u16; 400];
-    fill(&mut area, rubbish);
-    area
+// Arrays that hold the areas in front; how long the areas are stands in a case's head.
+#[derive(Drop)]
+pub struct Areas {
+    pub directory: [u16; 400],
+    pub times: [Tick; 2100],
+    pub inertial: [u16; 2100],
+    pub fanins: [u16; 16400],
+    pub values: [u64; 2100],
 }
 
-pub fn rubbish_times(rubbish: u16) -> [Tick; 2100]
-    ensures { 2100 ≡ length result }
-{
-    let mut area: [Tick; 2100] = [0; 2100];
-    fill_ticks(&mut area, rubbish);
-    area
-}
+impl Areas {
+    pub fn zeros() -> Areas {
+        Areas {
+            directory: [0; 400],
+            times: [0; 2100],
+            inertial: [0; 2100],
+            fanins: [0; 16400],
+            values: [0; 2100],
+        }
+    }
 
-pub fn rubbish_inertial(rubbish: u16) -> [u16; 2100]
-    ensures { 2100 ≡ length result }
-{
-    let mut area = [0u16; 2100];
-    fill(&mut area, rubbish);
-    area
-}
-
-pub fn rubbish_fanins(rubbish: u16) -> [u16; 16400]
-    ensures { 16400 ≡ length result }
-{
-    let mut area = [0u16; 16400];
-    fill(&mut area, rubbish);
-    area
-}
-
-pub fn rubbish_values(rubbish: u16) -> [u64; 2100]
-    ensures { 2100 ≡ length result }
-{
-    let mut area = [0u64; 2100];
-    fill_words(&mut area, rubbish);
-    area
-}
-
-fn fill(area: &mut [u16], rubbish: u16) {
-    let mut entry = rubbish;
-    for place in area {
-        *place = entry;
-        entry = entry.wrapping_add(257);
+    pub fn rubbish(rubbish: u16) -> Areas {
+        let mut areas = Areas::zeros();
+        fill(&mut areas.directory, rubbish);
+        fill(&mut areas.times, rubbish);
+        fill(&mut areas.inertial, rubbish);
+        fill(&mut areas.fanins, rubbish);
+        fill(&mut areas.values, rubbish);
+        areas
     }
 }
 
-fn fill_ticks(times: &mut [Tick], rubbish: u16) {
-    let mut entry = rubbish;
-    for time in times {
-        *time = tick_of(entry, entry);
-        entry = entry.wrapping_add(257);
+// A number as areas hold it, by its parts of two bytes each.
+trait Parts: Copy {
+    // The number whose parts are all this one.
+    fn of_part(part: u16) -> Self;
+
+    // The sum with each of the number's parts, the lowest first.
+    fn added_to(self, sum: u64) -> u64;
+}
+
+impl Parts for u16 {
+    fn of_part(part: u16) -> u16 {
+        part
+    }
+
+    fn added_to(self, sum: u64) -> u64 {
+        with_number(sum, u64::from(self))
     }
 }
 
-fn fill_words(values: &mut [u64], rubbish: u16) {
-    let mut entry = rubbish;
-    for word in values {
-        *word = wide(entry) * 281479271743489;
-        entry = entry.wrapping_add(257);
+impl Parts for u32 {
+    fn of_part(part: u16) -> u32 {
+        u32::from(part) * 65537
+    }
+
+    fn added_to(self, sum: u64) -> u64 {
+        let a = with_number(sum, u64::from(self));
+        with_number(a, u64::from(self / 65536))
     }
 }
 
-fn wide(x: u16) -> u64
-    ensures { result < 65536 }
-{
-    x as u64
-}
-
-fn wide_tick(t: Tick) -> u64 {
-    t as u64
-}
-
-// A time from its two halves.
-pub(crate) fn tick_of(low: u16, high: u16) -> Tick {
-    low as Tick + 65536 * (high as Tick)
-}
-
-// The arrays hold the areas in front; how long the areas are stands in the head.
-pub fn show_sums(
-    rt: &(impl Print + Eprint),
-    head: Head,
-    directory: &[u16; 400],
-    times: &[Tick; 2100],
-    inertial: &[u16; 2100],
-    fanins: &[u16; 16400],
-    values: &[u64; 2100],
-) {
-    show_plan_sums(rt, head, directory, times, inertial, fanins);
-    show_words_sum(rt, &values[..], values_length(head));
-}
-
-pub fn show_plan_sums(
-    rt: &(impl Print + Eprint),
-    head: Head,
-    directory: &[u16; 400],
-    times: &[Tick; 2100],
-    inertial: &[u16; 2100],
-    fanins: &[u16; 16400],
-) {
-    show_sum(rt, &directory[..], directory_length(head));
-    show_ticks_sum(rt, &times[..], times_length(head));
-    show_sum(rt, &inertial[..], inertial_length(head));
-    show_sum(rt, &fanins[..], fanins_length(head));
-}
-
-// Of the first numbers, as many as the count says.
-fn show_sum(rt: &(impl Print + Eprint), numbers: &[u16], count: usize) {
-    let end = limited(count, numbers.len());
-    let mut sum: u64 = 0;
-    for number in &numbers[..end] {
-        sum = with_number(sum, wide(*number));
+impl Parts for u64 {
+    fn of_part(part: u16) -> u64 {
+        u64::from(part) * 281479271743489
     }
-    show_number(rt, sum);
-}
 
-fn show_ticks_sum(rt: &(impl Print + Eprint), times: &[Tick], count: usize) {
-    let end = limited(count, times.len());
-    let mut sum: u64 = 0;
-    for time in &times[..end] {
-        sum = with_tick(sum, wide_tick(*time));
+    fn added_to(self, sum: u64) -> u64 {
+        let a = with_number(sum, self);
+        let b = with_number(a, self / 65536);
+        let c = with_number(b, self / 4294967296);
+        with_number(c, self / 281474976710656)
     }
-    show_number(rt, sum);
 }
 
-fn show_words_sum(rt: &(impl Print + Eprint), words: &[u64], count: usize) {
-    let end = limited(count, words.len());
-    let mut sum: u64 = 0;
-    for word in &words[..end] {
-        sum = with_word(sum, *word);
+fn fill<T: Parts>(area: &mut [T], rubbish: u16) {
+    let mut part = rubbish;
+    for number in area {
+        *number = T::of_part(part);
+        part = part.wrapping_add(257);
     }
-    show_number(rt, sum);
 }
 
-fn with_tick(sum: u64, tick: u64) -> u64 {
-    with_number(with_number(sum, tick), tick / 65536)
+pub fn show_sums(rt: &(impl Print + Eprint), head: Head, areas: &Areas) {
+    show_plan_sums(rt, head, areas);
+    show_sum(rt, &areas.values[..head.values_length()]);
 }
 
-fn with_word(sum: u64, word: u64) -> u64 {
-    let a = with_number(sum, word);
-    let b = with_number(a, word / 65536);
-    let c = with_number(b, word / 4294967296);
-    with_number(c, word / 281474976710656)
+// Of the areas that Plan is lent.
+pub fn show_plan_sums(rt: &(impl Print + Eprint), head: Head, areas: &Areas) {
+    show_sum(rt, &areas.directory[..head.directory_length()]);
+    show_sum(rt, &areas.times[..head.times_length()]);
+    show_sum(rt, &areas.inertial[..head.inertial_length()]);
+    show_sum(rt, &areas.fanins[..head.fanins_length()]);
+}
+
+fn show_sum<T: Parts>(rt: &(impl Print + Eprint), numbers: &[T]) {
+    show_number(
+        rt,
+        numbers.iter().fold(0, |sum, number| number.added_to(sum)),
+    );
 }
 
 // The sum with one number more, of which the lowest two bytes count.

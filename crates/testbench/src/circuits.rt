@@ -1,54 +1,67 @@
 // A circuit with its words, as a case has them.
-use crate::head::{
-    Head, after_count, before_count, changes_length, counts_length, file_length, is_held,
-};
-use crate::input::{read_all, read_ticks, read_words};
-use method::Tick;
+use crate::head::Head;
+use crate::input::{Cut, read_all, read_list};
+use circuit::Task;
+use method::{Tick, Words};
 use std::io::{Eprint, Input};
 
-// The head, and what follows it; whether the input had it all, and the buffers hold it.
+// A head and what follows it: the input had it all, and the buffers hold it.
 #[derive(Drop)]
 pub struct Case {
-    pub whole: bool,
     pub head: Head,
-    pub file: [u8; 70000],
-    pub counts: [u8; 80],
-    pub changes: [Tick; 400],
-    pub before: [u64; 400],
-    pub after: [u64; 400],
+    file: [u8; 70000],
+    counts: [u8; 80],
+    changes: [Tick; 400],
+    before: [u64; 400],
+    after: [u64; 400],
 }
 
-pub fn read_case(rt: &(impl Input + Eprint)) -> Case {
-    let mut head = [0u8; 24];
-    let whole = read_all(rt, &mut head);
-    case_of(rt, head, whole)
-}
-
-// The case of a head, which was read before, whole or not.
-pub fn case_of(rt: &(impl Input + Eprint), head: Head, read: bool) -> Case {
-    let mut file = [0u8; 70000];
-    let filled = read_all(rt, &mut file[0..file_length(head)]);
-    let mut counts = [0u8; 80];
-    let counted = read_all(rt, &mut counts[0..counts_length(head)]);
-    let timed = read_ticks(rt, changes_length(head));
-    let first = read_words(rt, before_count(head));
-    let second = read_words(rt, after_count(head));
-    let changes = timed.list;
-    let before = first.list;
-    let after = second.list;
-    Case {
-        whole: read
-            && is_held(head)
-            && filled
-            && counted
-            && timed.whole
-            && first.whole
-            && second.whole,
-        head: head,
-        file: file,
-        counts: counts,
-        changes: changes,
-        before: before,
-        after: after,
+impl Case {
+    pub fn file(&self) -> &[u8] {
+        &self.file[..self.head.file_length()]
     }
+
+    pub fn task(&self) -> Task {
+        Task {
+            file: self.file(),
+            counts: &self.counts[..self.head.counts_length()],
+            changes: &self.changes[..self.head.changes_length()],
+        }
+    }
+
+    pub fn words(&self) -> Words {
+        Words {
+            before: &self.before[..self.head.before_length()],
+            after: &self.after[..self.head.after_length()],
+        }
+    }
+}
+
+pub fn read_case(rt: &(impl Input + Eprint)) -> Result<Case, Cut> {
+    let mut bytes = [0; 24];
+    let head = read_all(rt, &mut bytes);
+    let case = read_behind(rt, Head(bytes));
+    head.and(case)
+}
+
+// The case of a head, which was read before. All that should follow it is asked for before any of it is judged.
+pub fn read_behind(rt: &(impl Input + Eprint), head: Head) -> Result<Case, Cut> {
+    let mut case = Case {
+        head,
+        file: [0; 70000],
+        counts: [0; 80],
+        changes: [0; 400],
+        before: [0; 400],
+        after: [0; 400],
+    };
+    let file = read_all(rt, &mut case.file[..head.file_length()]);
+    let counts = read_all(rt, &mut case.counts[..head.counts_length()]);
+    let changes = read_list(rt, &mut case.changes[..head.changes_length()]);
+    let before = read_list(rt, &mut case.before[..head.before_length()]);
+    let after = read_list(rt, &mut case.after[..head.after_length()]);
+    file.and(counts).and(changes).and(before).and(after)?;
+    if !head.is_held() {
+        return Err(Cut);
+    }
+    Ok(case)
 }

@@ -1,104 +1,84 @@
 // What is read from the input.
-ghost use Rattle.std.specs.Prelude.{◌<◌, ◌≤◌};
+ghost use Rattle.std.specs.Prelude.{◌≤◌, length};
 
-use crate::areas::tick_of;
-use method::Tick;
-use std::io::{Eprint, Input};
+use std::io::{Eprint, Error, Input};
 
-// Fills the bytes from the input; false where it ends before or cannot be read.
-pub fn read_all(rt: &(impl Input + Eprint), bytes: &mut [u8]) -> bool {
+// Why a run ends before its input does: a case is cut short, the buffers do not hold it, or it could not be read or its line not
+// be written, which standard error has said.
+#[derive(Clone, Copy)]
+pub struct Cut;
+
+impl From<Error> for Cut {
+    fn from(_error: Error) -> Cut {
+        Cut
+    }
+}
+
+// Fills the bytes from the input.
+pub fn read_all(rt: &(impl Input + Eprint), bytes: &mut [u8]) -> Result<(), Cut> {
     let wanted = bytes.len();
-    let received = streams::read_input(rt, bytes);
-    received.count == wanted
+    if streams::read_input(rt, bytes)? < wanted {
+        return Err(Cut);
+    }
+    Ok(())
 }
 
-// The times of a list, and whether the input had them all.
-#[derive(Drop)]
-pub struct Ticks {
-    pub whole: bool,
-    pub list: [Tick; 400],
-}
-
-// Reads as many times, 400 at most; those behind them are 0.
-pub fn read_ticks(rt: &(impl Input + Eprint), count: usize) -> Ticks {
-    let mut bytes = [0u8; 1600];
-    ticks_in(rt, &mut bytes[0..4 * limited(count, 400)])
-}
-
-// Fills the bytes from the input, and takes the times from them.
-fn ticks_in(rt: &(impl Input + Eprint), bytes: &mut [u8]) -> Ticks {
-    let whole = read_all(rt, bytes);
-    let list = ticks_of(bytes, 0);
-    Ticks {
-        whole: whole,
-        list: list,
+// The first bytes of a case. None where the input ends before it.
+pub fn read_first<const N: usize>(rt: &(impl Input + Eprint)) -> Result<Option<[u8; N]>, Cut> {
+    let mut first = [0; N];
+    match streams::read_input(rt, &mut first)? {
+        0 => Ok(None),
+        count if count < N => Err(Cut),
+        _ => Ok(Some(first)),
     }
 }
 
-// The times from a place on; those behind the end are 0.
-pub fn ticks_of(bytes: &[u8], at: usize) -> [Tick; 400]
-    requires { at ≤ 65535 }
-{
-    let mut row: [Tick; 400] = [0; 400];
-    for k in 0..400 {
-        row[k] = tick_at_byte(bytes, at + 4 * k);
+// A number as lists have it.
+pub trait FromBytes: Copy {
+    // How many bytes it has.
+    fn width() -> usize
+        ensures { result ≤ 8 };
+
+    // The number whose bytes start at a place; past the end of the bytes they are 0.
+    fn at_byte(bytes: &[u8], at: usize) -> Self;
+}
+
+impl FromBytes for u32 {
+    fn width() -> usize {
+        4
     }
-    row
-}
 
-// The time whose four bytes start at a place; past the end of the bytes they are 0.
-pub fn tick_at_byte(bytes: &[u8], at: usize) -> Tick
-    requires { at ≤ 80000 }
-{
-    tick_of(
-        numbers::number_at(bytes, at),
-        numbers::number_at(bytes, at + 2),
-    )
-}
-
-// The words of a list, and whether the input had them all.
-#[derive(Drop)]
-pub struct Words {
-    pub whole: bool,
-    pub list: [u64; 400],
-}
-
-// Reads as many words, 400 at most; those behind them are 0.
-pub fn read_words(rt: &(impl Input + Eprint), count: usize) -> Words {
-    let mut bytes = [0u8; 3200];
-    words_in(rt, &mut bytes[0..8 * limited(count, 400)])
-}
-
-// Fills the bytes from the input, and takes the words from them.
-fn words_in(rt: &(impl Input + Eprint), bytes: &mut [u8]) -> Words {
-    let whole = read_all(rt, bytes);
-    let list = words_of(bytes, 0);
-    Words {
-        whole: whole,
-        list: list,
+    fn at_byte(bytes: &[u8], at: usize) -> u32 {
+        (numbers::word_at_byte(bytes, at) % 4294967296) as u32
     }
 }
 
-// The words from a place on; those behind the end are 0.
-pub fn words_of(bytes: &[u8], at: usize) -> [u64; 400]
-    requires { at ≤ 65535 }
-{
-    let mut words = [0u64; 400];
-    for k in 0..400 {
-        words[k] = numbers::word_at_byte(bytes, at + 8 * k);
+impl FromBytes for u64 {
+    fn width() -> usize {
+        8
     }
-    words
+
+    fn at_byte(bytes: &[u8], at: usize) -> u64 {
+        numbers::word_at_byte(bytes, at)
+    }
 }
 
-pub fn wide(byte: u8) -> usize
-    ensures { result < 256 }
+// Fills the list, of 400 numbers at most, from the input.
+pub fn read_list<T: FromBytes>(rt: &(impl Input + Eprint), list: &mut [T]) -> Result<(), Cut>
+    requires { length list.old ≤ 400 }
 {
-    byte as usize
+    let mut bytes = [0; 3200];
+    let read = read_all(rt, &mut bytes[..T::width() * list.len()]);
+    fill_list(list, &bytes);
+    read
 }
 
-// The number, or the limit where it is larger.
-pub fn limited(number: usize, limit: usize) -> usize
-    ensures { result ≤ limit }
+// Fills the list, of 400 numbers at most, from the bytes; numbers behind their end are 0.
+pub fn fill_list<T: FromBytes>(list: &mut [T], bytes: &[u8])
+    requires { length list.old ≤ 400 }
 {
-    if limit < number { limit } else { number }
+    let width = T::width();
+    for (k, number) in list.iter_mut().enumerate() {
+        *number = T::at_byte(bytes, width * k);
+    }
 }

@@ -14,6 +14,7 @@
 // lowest first.
 #![tactic(auto)]
 
+mod answers;
 mod areas;
 mod circuits;
 mod head;
@@ -21,19 +22,15 @@ mod input;
 mod print;
 mod spans;
 
-pub use areas::{
-    rubbish_directory, rubbish_fanins, rubbish_inertial, rubbish_times, rubbish_values,
-    show_plan_sums, show_sums, with_number,
+pub use answers::{
+    show_counted, show_frame, show_planning, show_reading, show_refusal, show_seen, show_totals,
 };
-pub use circuits::{Case, case_of, read_case};
-pub use head::{
-    Head, after_count, before_count, changes_length, counts_length, directory_length,
-    fanins_length, file_length, inertial_length, limit_of, rubbish_of, times_length, values_length,
-};
-pub use input::{
-    Ticks, Words, limited, read_all, read_ticks, read_words, tick_at_byte, ticks_of, wide, words_of,
-};
+pub use areas::{Areas, show_plan_sums, show_sums, with_number};
+pub use circuits::{Case, read_behind, read_case};
+pub use head::Head;
+pub use input::{Cut, FromBytes, fill_list, read_all, read_first, read_list};
 pub use print::{
-    end_line, show_cut, show_no_end, show_number, show_refused, show_semicolon, show_totals,
+    end_line, show_cut, show_decimal, show_number, show_refused, show_semicolon, show_text,
+    show_word,
 };
-pub use spans::{Span, span_of};
+pub use spans::part_of;

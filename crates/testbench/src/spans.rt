@@ -1,36 +1,12 @@
 // Where a net's frames lie.
-ghost use Rattle.std.specs.Prelude.{◌<◌, ◌≤◌};
-
 use method::Net;
 
-// From a net's first frame to behind its last.
-#[derive(Drop)]
-pub struct Span {
-    pub first: usize,
-    pub end: usize,
-}
-
-// A net's frames by its pair in the directory; none where the pair is not there or reaches behind the last frame.
-pub fn span_of(directory: &[u16], net: Net, frames: usize) -> Span
-    ensures { (result.first ≤ result.end) × (result.end ≤ frames) }
-{
-    let pair = 2 * wide(net.0);
-    if directory.len() < pair + 2 {
-        return Span { first: 0, end: 0 };
-    }
-    let first = wide(directory[pair]);
-    let end = first + wide(directory[pair + 1]);
-    if frames < end {
-        return Span { first: 0, end: 0 };
-    }
-    Span {
-        first: first,
-        end: end,
-    }
-}
-
-fn wide(x: u16) -> usize
-    ensures { result < 65536 }
-{
-    x as usize
+// A net's part of a list, by its pair in the directory; none where the pair is not there or reaches behind the list's end.
+pub fn part_of<'a, T>(directory: &[u16], net: Net, list: &'a [T]) -> &'a [T] {
+    let pair = 2 * usize::from(net.0);
+    let Some([first, count]) = directory.get(pair..pair + 2) else {
+        return &[];
+    };
+    let first = usize::from(*first);
+    list.get(first..first + usize::from(*count)).unwrap_or(&[])
 }

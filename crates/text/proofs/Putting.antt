@@ -9,7 +9,7 @@ use native.Mathlib.Omega.{arith}
 use native.Mathlib.Nat.{min-eq_left}
 use native.Mathlib.Numerals.{add-one}
 use lib.ListN.{length, length-append, length-replicate, take, get_or}
-use lib.Seq.{sets, length-sets, take-suc, take_all}
+use lib.Seq.{sets, length-sets, take-suc}
 use Rattle.lists.specs.Tables.{tabulate}
 use Rattle.lists.specs.Areas.{cleared, padded}
 use Rattle.lists.proofs.Choices.{order}
@@ -20,11 +20,6 @@ use Rattle.text.specs.Wrote.{Wrote}
 
 pub wrote_nothing : (out : List ℕ) (at : ℕ) → Wrote out at [] out at
 wrote_nothing out at = record { is = refl; up = omega arith }
-
--- at the buffer's end or past it
-pub wrote_past : (out : List ℕ) (at : ℕ) (text : List ℕ) → length out ≤ at → Wrote out at text out at
-wrote_past out at text h =
-    record { is = sym (sets_out out at text h); up = omega arith }
 
 -- the buffer stays as long as it is
 pub wrote_same : {a b : List ℕ} {i j : ℕ} (text : List ℕ) → Wrote a i text b j → length b ≡ length a
@@ -71,13 +66,10 @@ wrote_next f n done piece = rw (add-one n, flat_next f n) (wrote_both done piece
 pub wrote_reached : {a b : List ℕ} {i j : ℕ} (f : ℕ → List ℕ) (k n : ℕ) → k ≤ n → n ≤ k → Wrote a i (f k) b j → Wrote a i (f n) b j
 wrote_reached {a} {b} {i} {j} f k n h l w = subst (λ (m : ℕ). Wrote a i (f m) b j) (let q : k ≡ n = omega (arith, h, l) in q) w
 
--- one byte more of a text, and all of them
+-- one byte more of a text
 pub wrote_byte : {a b c : List ℕ} {i j k : ℕ} (text : List ℕ) (n : ℕ) → n < length text → Wrote a i (take n text) b j → Wrote b j (get_or text n 0 ∷ []) c k
     → Wrote a i (take (n + 1) text) c k
 wrote_byte text n h done piece = rw (add-one n, take-suc text n 0 h) (wrote_both done piece)
-
-pub wrote_bytes : {a b : List ℕ} {i j : ℕ} (text : List ℕ) (n : ℕ) → length text ≤ n → Wrote a i (take n text) b j → Wrote a i text b j
-wrote_bytes text n h done = rw (← take_all n text h) done
 
 -- ---- from the start of a buffer that was cleared
 

@@ -8,14 +8,6 @@ ghost use Rattle.text.specs.Wrote.{Wrote};
 
 use method::Time;
 
-const ZERO: u8 = 48;
-
-const BLANK: u8 = 32;
-
-const EQUALS: u8 = 61;
-
-const NEWLINE: u8 = 10;
-
 // One byte.
 fn put(output: &mut [u8], at: usize, byte: u8) -> usize
     ensures { Wrote output.old at (byte ∷ []) output.new result }
@@ -32,15 +24,14 @@ fn put_all(output: &mut [u8], at: usize, text: &[u8]) -> usize
     ensures { Wrote output.old at text.now output.new result }
 {
     let mut end = at;
-    let mut k = 0;
-    while k < text.len() {
-        end = put(output, end, text[k]);
-        k += 1;
+    for byte in text {
+        end = put(output, end, *byte);
     }
     end
 }
 
 // The digit of n at a power of ten, where n reaches it.
+#[tactic(auto, unfolding(crate::specs::Text::digit_at))]
 fn put_digit(output: &mut [u8], at: usize, power: u32, n: u32) -> usize
     requires { 1 ≤ power }
     ensures { Wrote output.old at (digit_at power n) output.new result }
@@ -48,30 +39,28 @@ fn put_digit(output: &mut [u8], at: usize, power: u32, n: u32) -> usize
     if n < power {
         return at;
     }
-    put(output, at, ZERO + (n / power % 10) as u8)
+    put(output, at, b'0' + (n / power % 10) as u8)
 }
 
 // A number in decimal.
 pub fn put_number(output: &mut [u8], at: usize, n: u32) -> usize
     ensures { Wrote output.old at (decimal n) output.new result }
 {
-    let a = put_digit(output, at, 1000000, n);
-    let b = put_digit(output, a, 100000, n);
-    let c = put_digit(output, b, 10000, n);
-    let d = put_digit(output, c, 1000, n);
-    let e = put_digit(output, d, 100, n);
-    let f = put_digit(output, e, 10, n);
-    put(output, f, ZERO + (n % 10) as u8)
+    let mut end = at;
+    for power in [1_000_000, 100_000, 10_000, 1_000, 100, 10] {
+        end = put_digit(output, end, power, n);
+    }
+    put(output, end, b'0' + (n % 10) as u8)
 }
 
 // A blank and time=level.
 pub fn put_frame(output: &mut [u8], at: usize, time: Time, level: bool) -> usize
     ensures { Wrote output.old at (frame_text time.0 level) output.new result }
 {
-    let a = put(output, at, BLANK);
+    let a = put(output, at, b' ');
     let b = put_number(output, a, time.0);
-    let c = put(output, b, EQUALS);
-    put(output, c, ZERO + level as u8)
+    let c = put(output, b, b'=');
+    put(output, c, b'0' + level as u8)
 }
 
 // A refusal, from the buffer's start on.
@@ -87,5 +76,5 @@ pub fn put_refused(output: &mut [u8], number: u8) -> usize
 pub fn put_newline(output: &mut [u8], at: usize) -> usize
     ensures { Wrote output.old at (newline ∷ []) output.new result }
 {
-    put(output, at, NEWLINE)
+    put(output, at, b'\n')
 }

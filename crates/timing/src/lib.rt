@@ -9,6 +9,9 @@ ghost use Rattle.circuit.specs.File.{inputs_of, gates_of};
 ghost use Rattle.circuit.specs.Task.{task_of, all_packed_in};
 ghost use Rattle.evaluation.specs.Steps.{Driven, Planned};
 
+use circuit::{InputsAndGates, Task};
+use method::Words;
+
 pub fn mazh_evaluate(
     file: &[u8],
     counts: &[u8],
@@ -28,7 +31,17 @@ pub fn mazh_evaluate(
     ensures { values.new ≡ padded (length values.old) (all_packed_in (task_of file.now counts.now changes.now) (word_lists before.now after.now)) }
 {
     evaluation::evaluate(
-        file, counts, changes, inputs, gates, total, directory, inertial, fanins, values, before,
-        after,
+        Task {
+            file,
+            counts,
+            changes,
+        },
+        InputsAndGates { inputs, gates },
+        total,
+        directory,
+        inertial,
+        fanins,
+        values,
+        Words { before, after },
     );
 }

@@ -2,18 +2,14 @@
 // be read it prints nothing, and standard error says why.
 #![tactic(auto)]
 
-use waveform::Printing;
-
 // One byte more than an input may have is read, which is enough to tell.
 fn main(rt: HostRuntime) {
     let mut input = [0u8; 4097];
     let mut output = [0u8; waveform::BUFFER_LENGTH];
-    let received = streams::read_input(&rt, &mut input);
-    if received.failed {
+    let Ok(n) = streams::read_input(&rt, &mut input) else {
         return;
-    }
-    let n = received.count;
-    if let Printing::Printed(length) = waveform::wave(&input[..n], &mut output) {
-        streams::write_output(&rt, &output[..length]);
+    };
+    if let Ok(length) = waveform::wave(&input[..n], &mut output) {
+        let _ = streams::write_output(&rt, &output[..length]);
     }
 }

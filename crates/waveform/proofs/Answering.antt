@@ -10,7 +10,7 @@ use native.Mathlib.Omega.{arith}
 use lib.ListN.{length, get_or, replicate, length-replicate}
 use lib.Dec.{eqb}
 use borrow.Author.Tests.{eqb-true, eq-eqb, ne_eqb}
-use Rattle.lists.specs.Ladder.{Question, ◌or_else◌, first_no, accepted}
+use Rattle.lists.specs.Ladder.{Question, ◌or_else◌, first_no, accepted, refused}
 use Rattle.lists.specs.Outcome.{outcome}
 use Rattle.lists.specs.Tables.{tabulate}
 use Rattle.lists.proofs.Choices.{either, zero_or, bool_ext, and_left, and_both}
@@ -24,19 +24,14 @@ use Rattle.method.specs.Once.{frames_once, ones, OldRules}
 use Rattle.method.specs.WordLists.{WordLists, Lengths, word_lists, lengths_of, words_suit}
 use Rattle.circuit.specs.File.{inputs_of, circuit_of}
 use Rattle.circuit.specs.Limits.{most_inputs, most_gates}
-use Rattle.editions.specs.declared.Reading.{Reading}
-use Rattle.editions.specs.declared.Reading.TheVariants as R
 use Rattle.circuit.specs.Questions as reader
 use Rattle.circuit.specs.Task.{Task, moments_in, nets_in, frames_in}
 use Rattle.circuit.proofs.Present.{questions_numbered}
 use Rattle.editions.specs.Edition.{present}
 use Rattle.editions.specs.Questions as editions
 use Rattle.editions.proofs.Accepted.{Head, Counted, counted, passed}
-use Rattle.circuit.proofs.Parts.{circuit_inputs, gates_length, reading_accepted, inputs_are, gates_are, few}
-use Rattle.limiting.specs.declared.Planning.{Planning}
-use Rattle.limiting.specs.declared.Planning.TheVariants as Q
+use Rattle.circuit.proofs.Parts.{circuit_inputs, gates_length, inputs_are, gates_are, few}
 use Rattle.method.specs.declared.Totals.{Totals}
-use Rattle.limiting.specs.Planned.{on_paper}
 use Rattle.method.specs.Limits.{most_total_frames}
 use Rattle.method.specs.Sums.{fits}
 use Rattle.limiting.specs.Questions.{last_questions}
@@ -59,6 +54,7 @@ use Rattle.waveform.specs.Steps.{list_length, area_lines, nets_read, task_lines,
 use Rattle.waveform.proofs.Taking.{words_length, list_exact, list_only}
 use Rattle.waveform.proofs.Lining.{lines_are}
 use Rattle.waveform.proofs.Lengths.{refusal_length, lines_length}
+use Rattle.editions.specs.declared.InputsAndGates.{InputsAndGates}
 
 -- areas of these lengths pass 10
 pub areas_pass : (d t i f v : List ℕ) → length d ≡ 320 → length t ≡ 2048 → length i ≡ 2048 → length f ≡ 16384 → length v ≡ 2048 → engine.areas_suit (areas d t i f v) ≡ true
@@ -67,23 +63,19 @@ areas_pass d t i f v p q r s u = rw (eq-eqb _ _ p, eq-eqb _ _ q, eq-eqb _ _ r, e
 
 -- ---- how many nets there are, from the reader's answer
 
-module _ (file : List ℕ) {r : Reading} (e : reader.on_paper r ≡ reader.read_of file) where
-  module _ {inputs gates : ℕ} (q : r ≡ R.Accepted inputs gates) where
-    answered : reader.read_of file ≡ accepted (record { inputs = inputs; gates = gates })
-    answered = reading_accepted file e q
+module _ (file : List ℕ) where
+  module _ {s : InputsAndGates} (e : accepted s ≡ reader.read_of file) where
+    pub nets_read_lem : s.inputs + s.gates ≡ nets_read (reader.read_of file)
+    nets_read_lem = ap nets_read e
 
-    pub nets_read_lem : inputs + gates ≡ nets_read (reader.read_of file)
-    nets_read_lem = sym (ap nets_read answered)
-
-    pub nets_few : inputs + gates ≤ most_inputs + most_gates
+    pub nets_few : s.inputs + s.gates ≤ most_inputs + most_gates
     nets_few =
-        let i = inputs_are file answered in
-        let g = gates_are file answered in
-        omega (arith, i, g, few file (answered ∙ rw (i, g)))
+        let i = inputs_are file (sym e) in
+        let g = gates_are file (sym e) in
+        omega (arith, i, g, few file (sym e ∙ rw (i, g)))
 
-  pub nets_none : {n : ℕ} → r ≡ R.Refused n → 0 ≡ nets_read (reader.read_of file)
-  unfolding reader.on_paper
-  nets_none q = sym (ap nets_read (sym e ∙ ap reader.on_paper q))
+  pub nets_none : {n : ℕ} → refused n ≡ reader.read_of file → 0 ≡ nets_read (reader.read_of file)
+  nets_none e = ap nets_read e
 
 -- ---- a run
 
@@ -99,27 +91,24 @@ module _ (task : Task) (w : WordLists) (a : Areas) where
   unfolding run_text
   text_no e = rw (ne_eqb number 0 e) refl
 
-  module _ {r : Planning} {b : Areas} (e : outcome (on_paper r) b ≡ run_of task most_total_frames w a) where
-    -- a "no"
-    pub run_refused : {n : ℕ} → r ≡ Q.Refused n → refusal n ≡ run_text task w a
-    unfolding on_paper
-    run_refused {n} q =
-        let s = refused_some number _ (sym (run_is task most_total_frames w a e).0 ∙ ap on_paper q) in
-        sym (text_no (λ z. omega (arith, s.0, s.1, z)) ∙ ap refusal s.0)
+  -- a "no"
+  pub run_refused : {n : ℕ} {b : Areas} → outcome (refused n) b ≡ run_of task most_total_frames w a → refusal n ≡ run_text task w a
+  run_refused {n} e =
+      let s = refused_some number _ (sym (run_is task most_total_frames w a e).0) in
+      sym (text_no (λ z. omega (arith, s.0, s.1, z)) ∙ ap refusal s.0)
 
-    module _ {totals : Totals} (q : r ≡ Q.Planned totals) where
-      ran : LeftByRun task w b
-      unfolding on_paper
-      ran = record { limit = most_total_frames; totals = totals; entry = a; ran = ap (λ (x : Planning). outcome (on_paper x) b) (sym q) ∙ e }
+  module _ {totals : Totals} {b : Areas} (e : outcome (accepted totals) b ≡ run_of task most_total_frames w a) where
+    ran : LeftByRun task w b
+    ran = record { limit = most_total_frames; totals = totals; entry = a; ran = e }
 
-      -- all lines
-      pub run_lines : {nets : ℕ} → nets ≡ nets_read (reader.read_of task.file) → area_lines b.plan.directory b.plan.times b.values nets ≡ run_text task w a
-      unfolding ran
-      run_lines {nets} p =
-          let m : nets ≡ nets_in task = p ∙ ap nets_read (held task w ran).read ∙ sym (ap₂ ◌+◌ (circuit_inputs task.file) (gates_length task.file)) in
-          ap (area_lines b.plan.directory b.plan.times b.values) m
-          ∙ lines_are task w (after_runs.after_run task w b ran)
-          ∙ sym (text_yes (none task w ran))
+    -- all lines
+    pub run_lines : {nets : ℕ} → nets ≡ nets_read (reader.read_of task.file) → area_lines b.plan.directory b.plan.times b.values nets ≡ run_text task w a
+    unfolding ran
+    run_lines {nets} p =
+        let m : nets ≡ nets_in task = p ∙ ap nets_read (held task w ran).read ∙ sym (ap₂ ◌+◌ (circuit_inputs task.file) (gates_length task.file)) in
+        ap (area_lines b.plan.directory b.plan.times b.values) m
+        ∙ lines_are task w (after_runs.after_run task w b ran)
+        ∙ sym (text_yes (none task w ran))
 
 -- ---- the lists and the part
 

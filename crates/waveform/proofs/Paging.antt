@@ -12,8 +12,8 @@ use borrow.Author.Tests.{eq-eqb, ne_eqb, not-true, not-false}
 use Rattle.lists.specs.Areas.{cleared, padded}
 use Rattle.lists.proofs.Padding.{pad_least}
 use Rattle.numbers.specs.Numbers.{number_at}
-use Rattle.waveform.specs.declared.Printing.{Printing}
-use Rattle.waveform.specs.declared.Printing.TheVariants as P
+use Rattle.waveform.specs.declared.OtherLength.{OtherLength}
+use Rattle.std.specs.Prelude.{Result, Ok, Err}
 use Rattle.waveform.specs.Input.{whole, file_part, word_part}
 use Rattle.text.specs.Text.{refusal}
 use Rattle.waveform.specs.Wave.{buffer_length, answer_text, text_of, PrintAnswer, printed, other_length, Page, page, wave_of, on_paper}
@@ -41,12 +41,12 @@ module _ (input : List ℕ) where
 -- ---- the page
 
 module _ (input buffer : List ℕ) where
-  pub page_other : (length buffer ≡ buffer_length → ⊥) → page (on_paper P.OtherLength) buffer ≡ wave_of input buffer
+  pub page_other : (length buffer ≡ buffer_length → ⊥) → page (on_paper (Err (record {}))) buffer ≡ wave_of input buffer
   unfolding on_paper wave_of
   page_other n = rw (ne_eqb (length buffer) buffer_length n) refl
 
   module _ (room : length buffer ≡ buffer_length) {a b : List ℕ} {end : ℕ} (clear : a ≡ cleared buffer) where
-    text_page : (text : List ℕ) → text ≡ text_of input → length text ≤ buffer_length → Wrote a 0 text b end → page (on_paper (P.Printed end)) b ≡ wave_of input buffer
+    text_page : (text : List ℕ) → text ≡ text_of input → length text ≤ buffer_length → Wrote a 0 text b end → page (on_paper (Ok end)) b ≡ wave_of input buffer
     unfolding on_paper wave_of
     text_page text t few done =
         let fits : length text ≤ length buffer = omega (arith, room, few) in
@@ -54,12 +54,12 @@ module _ (input buffer : List ℕ) where
         (ap₂ page (ap printed (wrote_length buffer text clear done fits)) (wrote_padded buffer text clear done fits ∙ ap (λ (n : ℕ). padded n text) room))
 
     -- an input that is not whole
-    pub page_refused : {ok : Bool} → ok ≡ whole input → not ok ≡ true → Wrote a 0 (refusal 0) b end → page (on_paper (P.Printed end)) b ≡ wave_of input buffer
+    pub page_refused : {ok : Bool} → ok ≡ whole input → not ok ≡ true → Wrote a 0 (refusal 0) b end → page (on_paper (Ok end)) b ≡ wave_of input buffer
     page_refused {ok} w n done = text_page (refusal 0) (refused_text input (sym w ∙ not-true ok n)) (omega (arith, refusal_length 0)) done
 
     -- and one that is
     pub page_answer : {ok : Bool} → ok ≡ whole input → not ok ≡ false → (n : ℕ) → n ≡ number_at input 0
-        → Wrote a 0 (answer_text (take (2 + n - 2) (drop 2 input)) (take (length input - (2 + n)) (drop (2 + n) input))) b end → page (on_paper (P.Printed end)) b ≡ wave_of input buffer
+        → Wrote a 0 (answer_text (take (2 + n - 2) (drop 2 input)) (take (length input - (2 + n)) (drop (2 + n) input))) b end → page (on_paper (Ok end)) b ≡ wave_of input buffer
     page_answer {ok} w is n p done =
         text_page _ (answer_text_lem input (sym w ∙ not-false ok is) n p)
         (answer_fits (take (2 + n - 2) (drop 2 input)) (take (length input - (2 + n)) (drop (2 + n) input))) done
@@ -71,9 +71,9 @@ abbrev length_of : PrintAnswer → ℕ
 length_of (printed n) = n
 length_of other_length = 0
 
-pub printed_inside : (input buffer left : List ℕ) {r : Printing} {n : ℕ} → page (on_paper r) left ≡ wave_of input buffer → r ≡ P.Printed n → n ≤ length left
+pub printed_inside : (input buffer left : List ℕ) {r : Result ℕ OtherLength} {n : ℕ} → page (on_paper r) left ≡ wave_of input buffer → r ≡ Ok n → n ≤ length left
 unfolding on_paper wave_of
-printed_inside input buffer left {r} {n} e q = go (eqb (length buffer) buffer_length) (ap (λ (x : Printing). page (on_paper x) left) (sym q) ∙ e)
+printed_inside input buffer left {r} {n} e q = go (eqb (length buffer) buffer_length) (ap (λ (x : Result ℕ OtherLength). page (on_paper x) left) (sym q) ∙ e)
   where
     go : (b : Bool) → page (printed n) left ≡ cond b (page (printed (length (text_of input))) (padded buffer_length (text_of input))) (page other_length buffer) → n ≤ length left
     go true p = omega (arith, ap (λ (x : Page). length_of x.answer) p, ap (λ (x : Page). length x.left) p, pad_least buffer_length (text_of input))

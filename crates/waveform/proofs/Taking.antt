@@ -1,18 +1,16 @@
 -- The input taken apart: whether it is whole, its words, and how many words a word part has for each list.
 -- Assumes nothing.
 use Prim.Native.Nat.{ℕ, zero, suc, ◌+◌, ◌-◌, ◌*◌, ◌/◌, ◌%◌, ◌≤◌, ◌<◌}
-use mathlib.Core.Path.{◌≡◌, refl, sym, ap, ap₂, ◌∙◌, subst}
+use mathlib.Core.Path.{◌≡◌, refl, ap, ap₂, ◌∙◌}
 use mathlib.Core.Bool.{Bool, true, false, ◌&&◌, cond}
 use mathlib.Core.Logic.{inl, inr, ⊎_elim}
 use mathlib.Core.List.{List, ◌∷◌}
 use native.Mathlib.Omega.{arith}
-use native.Mathlib.Nat.{zero-add}
-use lib.ListN.{length, get_or, set, take, drop, replicate}
+use lib.ListN.{length, take, drop, replicate}
 use lib.Dec.{leb, eqb}
 use borrow.Author.Tests.{leb-true, le-leb, lt-leb, eq-eqb, ne_eqb}
 use Rattle.lists.proofs.Choices.{order, zero_or, and_right}
-use Rattle.lists.proofs.Storing.{Left, more, all, sets_all}
-use Rattle.lists.proofs.Tabled.{from_length, tabulate_at}
+use Rattle.lists.proofs.Tabled.{from_length}
 use Rattle.method.specs.Changes.{schedule}
 use Rattle.method.specs.Once.{ones}
 use Rattle.numbers.specs.Numbers.{number_at, word_at}
@@ -45,20 +43,6 @@ module _ (input : List ℕ) where
 pub words_length : (part : List ℕ) (first n : ℕ) → length (words_from part first n) ≡ n
 unfolding words_from
 words_length part first n = from_length n 0 (λ (i : ℕ). word_at part (8 * (first + i)))
-
-pub words_at : (part : List ℕ) (first n k : ℕ) → k < n → {w : ℕ} → w ≡ word_at part (8 * (first + k)) → w ≡ get_or (words_from part first n) k 0
-unfolding words_from
-words_at part first n k h e = e ∙ sym (tabulate_at n (λ (i : ℕ). word_at part (8 * (first + i))) 0 k h)
-
--- the loop that fills a list: one word more, and all
-pub taken_more : {area₀ row area : List ℕ} {k : ℕ} → Left area₀ 0 row area k → k < length row → {v : ℕ} → v ≡ get_or row k 0 → Left area₀ 0 row (set area k v) (k + 1)
-taken_more {area₀} {row} {area} {k} f h {v} q = subst (λ (n : ℕ). Left area₀ 0 row (set area n v) (k + 1)) (zero-add k) (more f h q)
-
-pub taken_all : (part : List ℕ) (first : ℕ) (words₀ : List ℕ) {words : List ℕ} {k : ℕ} → Left words₀ 0 (words_from part first (length words₀)) words k → length words ≤ k
-    → words ≡ words_from part first (length words₀)
-taken_all part first words₀ {words} {k} f h =
-    all f (omega (arith, f.same, words_length part first (length words₀)))
-    ∙ sets_all words₀ (words_from part first (length words₀)) (words_length part first (length words₀))
 
 -- ---- how many words a list has
 

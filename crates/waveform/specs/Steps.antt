@@ -5,7 +5,7 @@ use Rattle.lists.specs.Ladder.{first_no, Answer, accepted, refused}
 use Rattle.lists.specs.Tables.{tabulate}
 use Rattle.method.specs.Words.{lane}
 use Rattle.method.specs.WordLists.{WordLists, lengths_of}
-use Rattle.circuit.specs.Questions.{InputsAndGates}
+use Rattle.editions.specs.declared.InputsAndGates.{InputsAndGates}
 use Rattle.circuit.specs.Task.{Task, nets_in, times_in, lane_values}
 use Rattle.method.specs.Layout.{frame_count, part_of}
 use Rattle.looks.specs.Sight.{Sight, sight_at}

@@ -1,10 +1,9 @@
 -- What the wave program prints, and what the call that makes it answers and leaves in the buffer.
-use Rattle.std.specs.Prelude.{ℕ, cond, List, length, eqb}
+use Rattle.std.specs.Prelude.{ℕ, cond, List, length, eqb, Result, Ok, Err}
 use Rattle.lists.specs.Ladder.{first_no}
 use Rattle.lists.specs.Areas.{padded}
 use Rattle.circuit.specs.File.{circuit_of}
-use Rattle.waveform.specs.declared.Printing.{Printing}
-use Rattle.waveform.specs.declared.Printing.TheVariants as P
+use Rattle.waveform.specs.declared.OtherLength.{OtherLength}
 use Rattle.waveform.specs.Input.{whole, file_part, word_part, words_of, questions}
 use Rattle.text.specs.Text.{refusal}
 use Rattle.waveform.specs.Lines.{lines}
@@ -42,7 +41,7 @@ wave_of input buffer =
     cond (eqb (length buffer) buffer_length) (page (printed (length (text_of input))) (padded buffer_length (text_of input)))
     (page other_length buffer)
 
--- a `Printing` in these terms
-unfoldable pub on_paper : Printing → PrintAnswer
-on_paper (P.Printed n) = printed n
-on_paper P.OtherLength = other_length
+-- the call's result in these terms
+unfoldable pub on_paper : Result ℕ OtherLength → PrintAnswer
+on_paper (Ok n) = printed n
+on_paper (Err _) = other_length

@@ -43,9 +43,7 @@ pub(crate) fn take_words(part: &[u8], first: usize, words: &mut [u64])
     requires { (first ≤ 32) × (length words.old ≤ 32) }
     ensures { words.new ≡ words_from part.now first (length words.old) }
 {
-    let mut i = 0;
-    while i < words.len() {
-        words[i] = word_at_byte(part, 8 * (first + i));
-        i += 1;
+    for (i, word) in words.iter_mut().enumerate() {
+        *word = word_at_byte(part, 8 * (first + i));
     }
 }

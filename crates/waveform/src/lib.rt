@@ -14,24 +14,24 @@ use text::put_refused;
 // The length that the buffer must have. The longest text is shorter.
 pub const BUFFER_LENGTH: usize = 24000;
 
-// What printing answers: the length of the text, or that the buffer has another length than it must have.
+// The buffer has another length than it must have.
 #[derive(Clone, Copy)]
-pub enum Printing {
-    Printed(usize),
-    OtherLength,
-}
+pub struct OtherLength;
+
+// What printing answers: the length of the text.
+pub type Printing = Result<usize, OtherLength>;
 
 // Writes what the wave program prints for the input to the start of the buffer, and zeros behind it.
 pub fn wave(input: &[u8], output: &mut [u8]) -> Printing
     ensures { page (on_paper result) output.new ≡ wave_of input.now output.old }
 {
     if output.len() != BUFFER_LENGTH {
-        return Printing::OtherLength;
+        return Err(OtherLength);
     }
-    clearing::clear_bytes(output);
+    clearing::clear(output);
     if !is_whole(input) {
-        return Printing::Printed(put_refused(output, 0));
+        return Ok(put_refused(output, 0));
     }
     let end = 2 + numbers::number_at(input, 0) as usize;
-    Printing::Printed(put_answer(&input[2..end], &input[end..], output))
+    Ok(put_answer(&input[2..end], &input[end..], output))
 }

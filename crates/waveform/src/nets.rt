@@ -2,18 +2,17 @@
 ghost use Rattle.std.specs.Prelude.{◌≡◌, length};
 ghost use Rattle.method.specs.Changes.{schedule};
 ghost use Rattle.method.specs.Once.{ones};
-ghost use Rattle.method.specs.WordLists.{word_lists};
+ghost use Rattle.method.specs.WordLists.{words_in};
 ghost use Rattle.circuit.specs.Questions.{read_of};
-ghost use Rattle.circuit.specs.Task.{task_of};
+ghost use Rattle.circuit.specs.Task.{task_in};
 ghost use Rattle.engine.specs.Areas.{areas};
 ghost use Rattle.waveform.specs.Wave.{answer_text};
 ghost use Rattle.text.specs.Wrote.{Wrote};
 ghost use Rattle.waveform.specs.Steps.{list_length, part_frames, area_line, area_lines, nets_read, run_text};
 
 use crate::input::{list_length, take_words};
-use circuit::Reading;
-use method::{Frame, Net, Tick};
-use planner::Planning;
+use circuit::Task;
+use method::{Frame, Net, Tick, Words};
 use text::{put_frame, put_newline, put_number, put_refused};
 
 // The wave program's limit on frames is the greatest that there is.
@@ -24,11 +23,9 @@ fn put_frames(output: &mut [u8], at: usize, times: &[Tick], values: &[u64], fram
     ensures { Wrote output.old at (part_frames times.now values.now frames) output.new result }
 {
     let mut end = at;
-    let mut k: u16 = 0;
-    while k < frames {
+    for k in 0..frames {
         let seen = looks::sight_at(times, values, 0, Frame(k));
         end = put_frame(output, end, seen.began, seen.level);
-        k += 1;
     }
     end
 }
@@ -63,45 +60,37 @@ fn put_nets(
     ensures { Wrote output.old 0 (area_lines directory.now times.now values.now nets) output.new result }
 {
     let mut end = 0;
-    let mut net: u16 = 0;
-    while net < nets {
+    for net in 0..nets {
         end = put_net(output, end, directory, times, values, Net(net));
-        net += 1;
     }
     end
 }
 
 // Runs the circuit of the file in these areas, and writes the lines of its nets, or the refusal.
 fn put_run(
-    file: &[u8],
-    counts: &[u8],
-    changes: &[Tick],
+    task: Task,
     directory: &mut [u16],
     times: &mut [Tick],
     inertial: &mut [u16],
     fanins: &mut [u16],
     values: &mut [u64],
-    before: &[u64],
-    after: &[u64],
+    words: Words,
     output: &mut [u8],
 ) -> usize
-    ensures { Wrote output.old 0 (run_text (task_of file.now counts.now changes.now) (word_lists before.now after.now) (areas directory.old times.old inertial.old fanins.old values.old)) output.new result }
+    ensures { Wrote output.old 0 (run_text (task_in task.entry) (words_in words.entry) (areas directory.old times.old inertial.old fanins.old values.old)) output.new result }
 {
     match engine::run(
-        file,
-        counts,
-        changes,
+        task,
         FRAME_LIMIT,
         directory,
         times,
         inertial,
         fanins,
         values,
-        before,
-        after,
+        words,
     ) {
-        Planning::Refused(number) => put_refused(output, number),
-        Planning::Planned(_) => put_nets(output, directory, times, values, net_count(file)),
+        Err(refusal) => put_refused(output, u8::from(refusal)),
+        Ok(_) => put_nets(output, directory, times, values, net_count(task.file)),
     }
 }
 
@@ -110,25 +99,23 @@ fn net_count(file: &[u8]) -> u16
     ensures { result ≡ nets_read (read_of file.now) }
 {
     match circuit::read(file) {
-        Reading::Accepted { inputs, gates } => inputs + gates,
-        Reading::Refused(_) => 0,
+        Ok(read) => read.inputs + read.gates,
+        Err(_) => 0,
     }
 }
 
 // Takes both lists from the word part, which has as many words for each as they have places, and writes what Run answers
 // to them, where there are as many counts of 1 and times of 1: each input changes once, at 1.
 fn put_with_words(
-    file: &[u8],
-    counts: &[u8],
-    changes: &[Tick],
+    task: Task,
     part: &[u8],
     before: &mut [u64],
     after: &mut [u64],
     output: &mut [u8],
 ) -> usize
     requires before_len { (length before.old ≡ list_length (length part.now)) × (length after.old ≡ list_length (length part.now)) }
-    requires changes_value { schedule counts.now changes.now ≡ ones (list_length (length part.now)) }
-    ensures { Wrote output.old 0 (answer_text file.now part.now) output.new result }
+    requires changes_value { schedule task.counts.now task.changes.now ≡ ones (list_length (length part.now)) }
+    ensures { Wrote output.old 0 (answer_text task.entry.file.now part.now) output.new result }
 {
     let mut directory = [0u16; 320];
     let mut times: [Tick; 2048] = [0; 2048];
@@ -138,16 +125,13 @@ fn put_with_words(
     take_words(part, 0, before);
     take_words(part, before.len(), after);
     put_run(
-        file,
-        counts,
-        changes,
+        task,
         &mut directory,
         &mut times,
         &mut inertial,
         &mut fanins,
         &mut values,
-        before,
-        after,
+        Words { before, after },
         output,
     )
 }
@@ -162,9 +146,11 @@ pub(crate) fn put_answer(file: &[u8], part: &[u8], output: &mut [u8]) -> usize
     let mut after = [0u64; 32];
     let n = list_length(part);
     put_with_words(
-        file,
-        &counts[0..n],
-        &changes[0..n],
+        Task {
+            file,
+            counts: &counts[0..n],
+            changes: &changes[0..n],
+        },
         part,
         &mut before[0..n],
         &mut after[0..n],

@@ -1,7 +1,7 @@
 // 64 lanes in a word: the bit of a lane, and the inertial filter over the words of a net's frames.
 #![tactic(auto)]
 
-ghost use Rattle.std.specs.Prelude.{◌≡◌, ◌+◌, ◌<◌, ◌≤◌, min, length, get_or, take, drop};
+ghost use Rattle.std.specs.Prelude.{◌≡◌};
 ghost use Rattle.method.specs.Words as bits;
 ghost use Rattle.words.specs.Filtered.{filtered_words};
 ghost use Rattle.words.specs.Steps.{differing_lanes, kept_word};
@@ -29,48 +29,31 @@ pub fn filter(words: &mut [u64], inertial: &[u16])
         return;
     }
     let mut before = words[0];
-    let mut k = 1;
-    while k < frames {
-        before = kept(words, k, within(inertial[k], frames - (k + 1)), before);
+    for k in 1..frames {
+        let count = (inertial[k] as usize).min(frames - (k + 1));
+        before = kept(before, words[k], &words[k + 1..k + 1 + count]);
         words[k] = before;
-        k += 1;
     }
 }
 
-// The smaller of a count and what is left.
-fn within(count: u16, left: usize) -> usize
-    ensures { result ≡ min count left }
+// The word of a frame after the filter: `before` is the filtered word of the frame before, `following` are the words after it that
+// count. Mostly there is none or one, which takes no loop.
+fn kept(before: u64, raw: u64, following: &[u64]) -> u64
+    ensures { result ≡ kept_word before raw following.now }
 {
-    let n = count as usize;
-    if left < n { left } else { n }
+    match following {
+        [] => raw,
+        [next] => raw ^ ((raw ^ before) & (*next ^ raw)),
+        [next, others @ ..] => raw ^ ((raw ^ before) & (differing(raw, others) | (*next ^ raw))),
+    }
 }
 
-// The word of frame k after the filter: `before` is the filtered word of the frame before, n words after k count.
-fn kept(words: &[u64], k: usize, n: usize, before: u64) -> u64
-    requires { k + 1 + n ≤ length words.now }
-    ensures { result ≡ kept_word before (get_or words.now k 0) (take n (drop (k + 1) words.now)) }
+// The lanes in which one of the words differs from the raw word, gathered from the last word on, as the proof goes.
+fn differing(raw: u64, words: &[u64]) -> u64
+    ensures { result ≡ differing_lanes raw words.now }
 {
-    let raw = words[k];
-    if n == 0 {
-        return raw;
-    }
-    let one = words[k + 1] ^ raw;
-    if n == 1 {
-        return raw ^ ((raw ^ before) & one);
-    }
-    raw ^ ((raw ^ before) & (one | differing(words, k + 2, n - 1, raw)))
-}
-
-// The lanes in which one of the n words from `first` on differs from the raw word.
-fn differing(words: &[u64], first: usize, n: usize, raw: u64) -> u64
-    requires { first + n ≤ length words.now }
-    ensures { result ≡ differing_lanes raw (take n (drop first words.now)) }
-{
-    let mut lanes: u64 = 0;
-    let mut i = n;
-    while 0 < i {
-        i -= 1;
-        lanes = (words[first + i] ^ raw) | lanes;
-    }
-    lanes
+    words
+        .iter()
+        .rev()
+        .fold(0, |lanes, word| lanes | (*word ^ raw))
 }

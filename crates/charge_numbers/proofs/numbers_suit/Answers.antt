@@ -1,12 +1,11 @@
--- `numbers_suit` meets its contract: there are twice as many charges as cases where half of them are as many.
-use Rattle.charge_numbers.proofs.Numbered.{odd_no, half_no, half_yes}
+-- `numbers_suit` meets its contract: where there are two charges for each case, the cases alone are asked.
+use Rattle.std.proofs.Common.{ℕ, ltb, rules, tests, ◌∙◌}
+use Rattle.std.proofs.lemmas.Iterator.{YieldsList-from_slice}
+use Rattle.std.proofs.lemmas.Iterator.Search.{all_from_yields_List}
+use Rattle.charge_numbers.proofs.Numbered.{numbers_by_all}
 use Rattle.charge_numbers.proofs.numbers_suit.Goals as goal
 
-pub returns-then-charges-ne0 : goal.returns-then-charges-ne0
-returns-then-charges-ne0 c = let s = c.args in odd_no s.cases.now s.charges.now c.if-charges-ne0.true
-
 pub returns-then-charges-cases : goal.returns-then-charges-cases
-returns-then-charges-cases c = let s = c.args in half_no s.cases.now s.charges.now c.if-charges-ne0.false c.if-charges-cases.true
-
-pub returns : goal.returns
-returns c = let s = c.args in half_yes s.cases.now s.charges.now c.if-charges-ne0.false c.if-charges-cases.false c.cases_suit.ensures
+returns-then-charges-cases c =
+    all_from_yields_List (λ (x : ℕ). ltb x 2) _ _ _ c.all.ensures.ran (YieldsList-from_slice c.args.cases.now cc) (λ x b q k. search (rules, tests))
+    ∙ numbers_by_all c.args.cases.now c.args.charges.now c.if-charges-cases.true

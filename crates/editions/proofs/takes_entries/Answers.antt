@@ -1,10 +1,10 @@
--- `editions::takes_entries` meets its contract. BUF and NOT come first.
+-- `editions::takes_entries` meets its contract, kind by kind.
 use mathlib.Core.Path.{◌∙◌}
 use Rattle.editions.proofs.Kinded.{takes_one, takes_several}
 use Rattle.editions.proofs.takes_entries.Goals as goal
 
-pub returns-then-kind-lt2 : goal.returns-then-kind-lt2
-returns-then-kind-lt2 c = takes_one _ _ c.if-kind-lt2.true
+pub returns-in-Buf : goal.returns-in-Buf
+returns-in-Buf c = takes_one _ _ c.in-Buf.is
 
-pub returns : goal.returns
-returns c = c.is_between.ensures ∙ takes_several _ _ c.if-kind-lt2.false
+pub returns-in_default : goal.returns-in_default
+returns-in_default c = c.is_between.ensures ∙ takes_several _ _ c.in_default.not-Buf c.in_default.not-Not

@@ -1,7 +1,7 @@
 -- `mazh_run_fitted` meets its contract: what the call says of its answer, in numbers.
 use Rattle.answers.specs.Numbers.{total_numbers}
-use Rattle.answers.proofs.Given.{given_outcome}
+use Rattle.answers.proofs.Given.{given_outcome, given_numbers}
 use Rattle.export.proofs.mazh_run_fitted.Goals as goal
 
 pub returns : goal.returns
-returns c = given_outcome total_numbers c.args.totals.now c.give_totals.ensures c.run_fitted-answer.ensures
+returns c = given_outcome total_numbers c.args.totals.now (given_numbers _ total_numbers _ c.give.ensures.number c.give.ensures.array) c.run_fitted-answer.ensures

@@ -1,5 +1,5 @@
 -- `add_rest` meets its contract: the times from frame k on are still to be added.
-use Prim.Native.Nat.{◌+◌, ◌-◌, ◌≤◌}
+use Prim.Native.Nat.{◌+◌, ◌-◌}
 use mathlib.Core.Path.{◌≡◌}
 use mathlib.Core.List.{◌++◌}
 use lib.ListN.{length, take, drop}
@@ -8,8 +8,5 @@ use Rattle.gathering.proofs.add_rest.Given as goal
 
 abbrev pub invariant-loop-k : goal.invariant-loop-k
 invariant-loop-k l =
-    (l.k ≤ length l.fanin) × (l.n + (length l.fanin - l.k) ≡ l.count + (length l.fanin - l.from)) × (length l.gathered ≡ length l.initial.gathered)
+    (l.n + (length l.fanin - l.k) ≡ l.count + (length l.fanin - l.from))
     × (take l.count l.initial.gathered ++ plus l.delay (drop l.from l.fanin) ≡ take l.n l.gathered ++ plus l.delay (drop l.k l.fanin))
-
-abbrev pub decreases-loop-k : goal.decreases-loop-k
-decreases-loop-k l = length l.fanin - l.k

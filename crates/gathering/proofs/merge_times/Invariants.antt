@@ -9,7 +9,7 @@ use Rattle.gathering.proofs.merge_times.Given as goal
 
 abbrev pub invariant-loop-i : goal.invariant-loop-i
 invariant-loop-i l =
-    (1 ≤ l.i) × (l.i ≤ length l.one) × (1 ≤ l.j) × (l.j ≤ length l.other) × (l.n + 1 ≤ l.i + l.j) × (length l.gathered ≡ length l.initial.gathered)
+    (1 ≤ l.i) × (l.i ≤ length l.one) × (1 ≤ l.j) × (l.j ≤ length l.other) × (l.n + 1 ≤ l.i + l.j)
     × (gate_times l.delay (l.one ∷ l.other ∷ []) ≡ take l.n l.gathered ++ union l.delay (drop l.i l.one) (drop l.j l.other))
 
 abbrev pub decreases-loop-i : goal.decreases-loop-i

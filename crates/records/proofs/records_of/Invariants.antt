@@ -1,12 +1,8 @@
 -- `records_of` meets its contract. After k records the list begins with them.
-use Prim.Native.Nat.{◌-◌, ◌≤◌}
 use mathlib.Core.Path.{◌≡◌}
 use lib.ListN.{length, take}
 use Rattle.records.specs.Records.{most_records, first_records}
 use Rattle.records.proofs.records_of.Given as goal
 
 abbrev pub invariant-loop-k : goal.invariant-loop-k
-invariant-loop-k l = (l.k ≤ l.count) × (length l.list ≡ most_records) × (take l.k l.list ≡ first_records l.bytes l.k)
-
-abbrev pub decreases-loop-k : goal.decreases-loop-k
-decreases-loop-k l = l.count - l.k
+invariant-loop-k l = (length l.list ≡ most_records) × (take l.k l.list ≡ first_records l.bytes l.k)

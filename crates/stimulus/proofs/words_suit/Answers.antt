@@ -2,8 +2,8 @@
 use Rattle.stimulus.proofs.Asked.{not_before, after_decides}
 use Rattle.stimulus.proofs.words_suit.Goals as goal
 
-pub returns-then-before-inputs : goal.returns-then-before-inputs
-returns-then-before-inputs c = not_before _ _ _ c.if-before-inputs.true
+pub returns-then-words-inputs : goal.returns-then-words-inputs
+returns-then-words-inputs c = not_before _ _ _ c.if-words-inputs.true
 
 pub returns : goal.returns
-returns c = after_decides _ _ _ c.if-before-inputs.false
+returns c = after_decides _ _ _ c.if-words-inputs.false

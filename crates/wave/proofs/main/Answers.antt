@@ -5,7 +5,7 @@ use Rattle.waveform.proofs.Paging.{printed_inside}
 use Rattle.wave.proofs.main.Goals as goal
 
 pub slice_bounds-output-end : goal.slice_bounds-output-end
-slice_bounds-output-end c = printed_inside _ _ _ c.wave.ensures c.in-Printed.is
+slice_bounds-output-end c = printed_inside _ _ _ c.wave.ensures c.in-Ok-wave.is
 
 pub slice_bounds-write_output-end : goal.slice_bounds-write_output-end
-slice_bounds-write_output-end c = sym (length-take-le _ _ (printed_inside _ _ _ c.wave.ensures c.in-Printed.is))
+slice_bounds-write_output-end c = sym (length-take-le _ _ (printed_inside _ _ _ c.wave.ensures c.in-Ok-wave.is))

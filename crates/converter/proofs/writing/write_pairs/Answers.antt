@@ -1,19 +1,7 @@
 -- `converter::write_pairs` meets its contract. The loop's invariant: the pairs from gate j on are still to be stored.
 use native.Mathlib.Omega.{arith}
-use Rattle.converter.proofs.Rewriting.{record_few, head_few, pairing_none, pairing_more, pairing_all}
+use Rattle.converter.proofs.Rewriting.{record_few, head_few, pairing_more, pairing_all}
 use Rattle.converter.proofs.writing.write_pairs.Goals as goal
-
-pub overflow_mul-start : goal.overflow_mul-start
-overflow_mul-start c = omega (arith, c.requires.few)
-
-pub overflow_add-start : goal.overflow_add-start
-overflow_add-start c = omega (arith, c.requires.few)
-
-pub loop-j-init : goal.loop-j-init
-loop-j-init c = pairing_none _ _ _ _ _
-
-pub gate_at-gate-requires : goal.gate_at-gate-requires
-gate_at-gate-requires c = (c.requires.each _ c.loop-j-test.true).lies
 
 pub overflow_mul-len : goal.overflow_mul-len
 overflow_mul-len c = omega (arith, record_few _ _ _ c.gate_at-gate.ensures (c.requires.each _ c.loop-j-test.true).entries)
@@ -21,17 +9,8 @@ overflow_mul-len c = omega (arith, record_few _ _ _ c.gate_at-gate.ensures (c.re
 pub overflow_add-len : goal.overflow_add-len
 overflow_add-len c = omega (arith, record_few _ _ _ c.gate_at-gate.ensures (c.requires.each _ c.loop-j-test.true).entries, head_few _ c.record_head.ensures)
 
-pub put_pair-requires : goal.put_pair-requires
-put_pair-requires c = omega (arith, c.loop-j-test.true, c.requires.few)
-
 pub overflow_add-start-in-loop-j : goal.overflow_add-start-in-loop-j
 overflow_add-start-in-loop-j c = omega (arith, record_few _ _ _ c.gate_at-gate.ensures (c.requires.each _ c.loop-j-test.true).entries, head_few _ c.record_head.ensures, c.loop-j.invariant.low, c.requires.few, c.loop-j-test.true)
-
-pub overflow_add-j-in-loop-j : goal.overflow_add-j-in-loop-j
-overflow_add-j-in-loop-j c = omega (arith, c.loop-j-test.true, c.requires.few)
-
-pub loop-j-smaller : goal.loop-j-smaller
-loop-j-smaller c = omega (arith, c.loop-j-test.true)
 
 pub loop-j-preserved : goal.loop-j-preserved
 loop-j-preserved c = pairing_more _ _ _ _ c.loop-j.invariant c.loop-j-test.true c.gate_at-gate.ensures (c.requires.each _ c.loop-j-test.true).entries c.record_head.ensures c.put_pair.ensures

@@ -3,18 +3,12 @@ use native.Mathlib.Omega.{arith}
 use Rattle.converter.proofs.Rewriting.{record_few, head_few, wrote_record, record_small}
 use Rattle.converter.proofs.writing.write_record.Goals as goal
 
-pub gate_at-gate-requires : goal.gate_at-gate-requires
-gate_at-gate-requires c = let s = c in (s.requires.0.each s.args.j (omega arith)).lies
-
 pub put_head-requires : goal.put_head-requires
 put_head-requires c = let small = record_small _ _ _ _ c.gate_at-gate.ensures (c.requires.0.each _ (omega arith)) in
     (omega (arith, c.requires.1), small.0, small.1)
 
 pub overflow_add-list : goal.overflow_add-list
 overflow_add-list c = omega (arith, c.requires.1, head_few _ c.record_head.ensures)
-
-pub copy_fanins-requires : goal.copy_fanins-requires
-copy_fanins-requires c = let s = c in rw c.gate_at-gate.ensures (s.requires.0.each s.args.j (omega arith)).listed
 
 pub overflow_mul-result : goal.overflow_mul-result
 overflow_mul-result c = omega (arith, record_few _ _ _ c.gate_at-gate.ensures (c.requires.0.each _ (omega arith)).entries)

@@ -1,5 +1,5 @@
 -- `evaluation::gates::bases_of` meets its contract. After e entries the array has their nets' first frames.
-use Prim.Native.Nat.{ℕ, ◌-◌, ◌≤◌, ◌<◌}
+use Prim.Native.Nat.{ℕ, ◌<◌}
 use mathlib.Core.Path.{◌≡◌}
 use lib.ListN.{length, get_or}
 use Rattle.method.specs.Kinds.{most_fanins}
@@ -8,7 +8,4 @@ use Rattle.method.specs.Layout.{first_frame}
 use Rattle.evaluation.proofs.gates.bases_of.Given as goal
 
 abbrev pub invariant-loop-e : goal.invariant-loop-e
-invariant-loop-e l = (l.e ≤ l.entries) × (length l.bases ≡ most_fanins) × ((i : ℕ) → i < l.e → get_or l.bases i 0 ≡ first_frame l.directory (fanin_at l.file l.list i))
-
-abbrev pub decreases-loop-e : goal.decreases-loop-e
-decreases-loop-e l = l.entries - l.e
+invariant-loop-e l = (length l.bases ≡ most_fanins) × ((i : ℕ) → i < l.e → get_or l.bases i 0 ≡ first_frame l.directory (fanin_at l.file l.list i))

@@ -1,13 +1,12 @@
--- A turn leaves the loop at the end of the list with the number that it has, or takes what one expectation needs into that
--- number.
-use Rattle.std.proofs.Common.{◌<◌, length, arith, sym, ◌∙◌}
-use Rattle.expectations.proofs.Turns.{needed_end, needed_on}
+-- The fold's number at the end is what the list needs, and 0 to begin with adds none.
+use Rattle.std.proofs.Common.{◌≡◌, ℕ, max, fold, rules, ◌∙◌}
+use native.Mathlib.Nat.{zero-max}
+use Rattle.expectations.specs.declared.Expectation.{Expectation}
+use Rattle.expectations.specs.Steps.{nets_for, nets_needed}
+use Rattle.expectations.proofs.Turns.{needed_by_fold}
 use Rattle.expectations.proofs.needs.nets_needed.Goals as goal
 
-pub loop-i-preserved : goal.loop-i-preserved
-loop-i-preserved c =
-    let l : c.loop-i.i < length c.args.list.now = omega arith in
-    (omega arith, needed_on c.args.list.now c.loop-i.nets c.loop-i.i l c.at_least-nets.ensures ∙ c.loop-i.invariant.1)
-
 pub returns : goal.returns
-returns c = sym (needed_end c.args.list.now c.loop-i.nets c.loop-i.i c.if-i-list.true) ∙ c.loop-i.invariant.1
+returns c =
+    let folded : c.fold.result ≡ fold (λ (n : ℕ) (e : Expectation). max n (nets_for e)) 0 c.args.list.now = search rules in
+    folded ∙ needed_by_fold 0 c.args.list.now ∙ zero-max (nets_needed c.args.list.now)

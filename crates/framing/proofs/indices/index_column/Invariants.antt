@@ -10,9 +10,5 @@ use Rattle.framing.proofs.indices.index_column.Given as goal
 
 abbrev pub invariant-loop-k : goal.invariant-loop-k
 invariant-loop-k l =
-    (l.place ≡ l.at + l.k * l.width) × (length l.fanins ≡ length l.initial.fanins)
-    × (l.k < length l.own → l.begun ≤ last_frame l.fanin (get_or l.own l.k 0 - l.delay)) × (l.k < length l.own → last_frame l.fanin (get_or l.own l.k 0 - l.delay) ≤ l.begun + 1)
-    × (column l.initial.fanins l.at l.width (map (fanin_index l.delay l.fanin) l.own) ≡ column l.fanins l.place l.width (map (fanin_index l.delay l.fanin) (drop l.k l.own)))
-
-abbrev pub decreases-loop-k : goal.decreases-loop-k
-decreases-loop-k l = length l.own - l.k
+    (l.k < length l.own → l.begun ≤ last_frame l.fanin (get_or l.own l.k 0 - l.delay)) × (l.k < length l.own → last_frame l.fanin (get_or l.own l.k 0 - l.delay) ≤ l.begun + 1)
+    × (column l.initial.fanins l.at l.width (map (fanin_index l.delay l.fanin) l.own) ≡ column l.fanins (l.at + l.k * l.width) l.width (map (fanin_index l.delay l.fanin) (drop l.k l.own)))

@@ -11,10 +11,6 @@ use Rattle.framing.proofs.indices.index_pairs.Given as goal
 
 abbrev pub invariant-loop-k : goal.invariant-loop-k
 invariant-loop-k l =
-    (l.place ≡ l.first + l.k * 2) × (length l.fanins ≡ length l.initial.fanins)
-    × (l.k < length l.own → l.x ≤ last_frame l.one (get_or l.own l.k 0 - l.delay)) × (l.k < length l.own → last_frame l.one (get_or l.own l.k 0 - l.delay) ≤ l.x + 1)
+    (l.k < length l.own → l.x ≤ last_frame l.one (get_or l.own l.k 0 - l.delay)) × (l.k < length l.own → last_frame l.one (get_or l.own l.k 0 - l.delay) ≤ l.x + 1)
     × (l.k < length l.own → l.y ≤ last_frame l.other (get_or l.own l.k 0 - l.delay)) × (l.k < length l.own → last_frame l.other (get_or l.own l.k 0 - l.delay) ≤ l.y + 1)
-    × (sets l.initial.fanins l.first (flat_map (fanin_row l.delay (l.one ∷ l.other ∷ [])) l.own) ≡ sets l.fanins l.place (flat_map (fanin_row l.delay (l.one ∷ l.other ∷ [])) (drop l.k l.own)))
-
-abbrev pub decreases-loop-k : goal.decreases-loop-k
-decreases-loop-k l = length l.own - l.k
+    × (sets l.initial.fanins l.first (flat_map (fanin_row l.delay (l.one ∷ l.other ∷ [])) l.own) ≡ sets l.fanins (l.first + 2 * l.k) (flat_map (fanin_row l.delay (l.one ∷ l.other ∷ [])) (drop l.k l.own)))

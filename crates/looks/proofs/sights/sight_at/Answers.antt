@@ -3,4 +3,4 @@ use Rattle.looks.proofs.Sighting.{sight_is}
 use Rattle.looks.proofs.sights.sight_at.Goals as goal
 
 pub returns : goal.returns
-returns c = let s = c.args in sight_is s.times.now _ s.values.now _ _ c.word_at.ensures c.bit_of-level.ensures c.tick_at.ensures c.until.ensures
+returns c = let s = c.args in sight_is s.times.now _ s.values.now _ _ c.entry_at.ensures c.bit_of-level.ensures c.entry_at-2.ensures c.until-until.ensures

@@ -34,4 +34,4 @@ returns c = let s = c in
     let kept = list_kept part s.args.before.now s.requires.before_len.0 _ first in
     let before = list_taken part s.args.before.now s.requires.before_len.0 0 first refl in
     let after = list_taken part s.args.after.now s.requires.before_len.1 _ c.take_words-2.ensures kept in
-    wrote_as _ _ (answer_is s.args.file.now part _ (areas_pass _ _ _ _ _ (zeros 320) (zeros 2048) (zeros 2048) (zeros 16384) (zeros 2048)) {w = word_lists _ _} before after s.requires.changes_value) c.put_run.ensures
+    wrote_as _ _ (answer_is s.args.task.file.now part _ (areas_pass _ _ _ _ _ (zeros 320) (zeros 2048) (zeros 2048) (zeros 16384) (zeros 2048)) {w = word_lists _ _} before after s.requires.changes_value) c.put_run.ensures
