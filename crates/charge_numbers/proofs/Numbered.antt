@@ -1,15 +1,17 @@
 -- Loads as plain numbers, walked through one by one; and that a list which is cut off behind 161 loads answers as the whole list does.
 -- Assumes nothing.
-use Prim.Native.Nat.{ℕ, ◌+◌, ◌*◌, ◌<◌, min}
+use Prim.Native.Nat.{ℕ, ◌+◌, ◌*◌, ◌<◌, ◌≤◌, min}
 use mathlib.Core.Path.{◌≡◌, refl, ap, ◌∙◌}
 use mathlib.Core.Logic.{inl, inr}
-use mathlib.Core.Bool.{Bool, ◌&&◌}
+use mathlib.Core.Bool.{Bool, true, false, ◌&&◌}
 use mathlib.Core.List.{List, [], ◌∷◌}
 use native.Mathlib.Omega.{arith}
+use native.Mathlib.Numerals.{add-one}
 use lib.Dec.{ltb}
-use lib.ListN.{length, get_or, set, take}
+use lib.ListN.{length, get_or, set, take, drop, drop_of_length-le}
+use lib.Seq.{drop-cons}
 use lib.Ieee.{Float, binary64, of_bits}
-use borrow.Author.Tests.{eq-eqb}
+use borrow.Author.Tests.{eq-eqb, lt-ltb, le-ltb}
 use Rattle.std.specs.List.{list_all}
 use Rattle.lists.specs.Tables.{tabulate_from, tabulate, all_below}
 use Rattle.lists.specs.Outcome.{Outcome}
@@ -37,6 +39,25 @@ cases_by_all (x ∷ cases) = ap (λ (b : Bool). ltb x 2 && b) (cases_by_all case
 pub numbers_by_all : (cases : List ℕ) (charges : List Float) → length charges ≡ 2 * length cases → list_all (λ (x : ℕ). ltb x 2) cases ≡ numbers_suit cases charges
 unfolding numbers_suit
 numbers_by_all cases charges e = rw (eq-eqb (length charges) (2 * length cases) e) (cases_by_all cases)
+
+-- the same from place k on
+abbrev pub cases_from : List ℕ → ℕ → Bool
+cases_from cases k = all_below 2 (drop k cases)
+
+module _ (cases : List ℕ) (k : ℕ) where
+  here : k < length cases → cases_from cases k ≡ ltb (get_or cases k 0) 2 && cases_from cases (k + 1)
+  unfolding all_below
+  here l = rw (add-one k, drop-cons cases k 0 l)
+
+  pub cases_no : k < length cases → 1 < get_or cases k 0 → cases_from cases k ≡ false
+  cases_no l n = here l ∙ rw (le-ltb (get_or cases k 0) 2 (omega arith))
+
+  pub cases_on : k < length cases → get_or cases k 0 ≤ 1 → cases_from cases k ≡ cases_from cases (k + 1)
+  cases_on l y = here l ∙ rw (lt-ltb (get_or cases k 0) 2 (omega arith))
+
+  pub cases_end : length cases ≤ k → cases_from cases k ≡ true
+  unfolding all_below
+  cases_end l = rw (drop_of_length-le cases l)
 
 -- ---- one charge
 

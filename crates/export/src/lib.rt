@@ -139,6 +139,7 @@ pub fn mazh_level(times: &[Tick], values: &[u64], lane: u8, time: Tick, sight: &
 }
 
 // Count: how many changes.
+#[tactic(auto, using(answers::proofs::Given::given_answer, answers::proofs::Given::given_numbers))]
 pub fn mazh_count(times: &[Tick], values: &[u64], lane: u8, changes: &mut [u32; 1]) -> u32
     ensures { numbers result changes.new ≡ in_numbers one_number changes.old (count_of times.now values.now lane) }
 {

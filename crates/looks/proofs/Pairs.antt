@@ -1,24 +1,24 @@
 -- Each frame of a net beside the next: whether its times start at 0 and rise, and how often a lane changes.
 -- Assumes nothing.
-use Prim.Native.Nat.{ℕ, zero, suc, ◌+◌, ◌<◌}
-use mathlib.Core.Path.{◌≡◌, refl, sym, ap, ◌∙◌}
-use mathlib.Core.Bool.{Bool, true, false, cond, not, beq, and-false}
+use Prim.Native.Nat.{ℕ, zero, suc, ◌+◌, ◌-◌, ◌<◌, ◌≤◌}
+use mathlib.Core.Path.{◌≡◌, refl, sym, ◌∙◌}
+use mathlib.Core.Bool.{Bool, true, false, not, beq, and-false}
 use mathlib.Core.List.{List, [], ◌∷◌, map}
 use native.Mathlib.Omega.{arith}
+use native.Mathlib.Nat.{add-zero}
 use native.Mathlib.Numerals.{add-one}
+use lib.Bits.{bit_xor}
 use lib.Dec.{ltb}
-use denote.Ref.{Bor}
+use lib.ListN.{length, get_or, drop, drop_of_length-le}
+use lib.Seq.{drop-cons}
+use mir.Val.{bool_byte}
+use borrow.Author.Tests.{eq-eqb, not-true, not-false}
 use Rattle.std.proofs.Common.{Some}
-use Rattle.std.specs.Iterator.{AlwaysYields}
-use Rattle.std.specs.declared.slice.Windows.{Windows}
-use Rattle.std.specs.Slice.Iter.{windows_rest, windows_size, windows_steps}
-use Rattle.std.proofs.lemmas.Iterator.{YieldsList}
-use Rattle.std.specs.List.{slice_get, filter, IsAllAdjacentAnswer}
-use lib.ListN.{length, get_or}
-use borrow.Author.Tests.{eq-eqb}
+use Rattle.std.specs.List.{slice_get, IsAllAdjacentAnswer}
 use Rattle.method.specs.Times.{rise_above, start_and_rise}
 use Rattle.method.specs.Look.{changes_after, changes}
 use Rattle.method.specs.Words.{lane}
+use Rattle.method.proofs.Bits.{xor_lane}
 
 -- ---- question 15
 
@@ -39,41 +39,30 @@ pairs_rise (t ∷ ts) e false h = let z : t ≡ 0 = cc in rw (eq-eqb t 0 z) (one
 
 -- ---- the changes of a lane
 
--- each value behind x with the value before it
-pairs_from : ℕ → List ℕ → List (List ℕ)
-pairs_from x [] = []
-pairs_from x (y ∷ ys) = (x ∷ y ∷ []) ∷ pairs_from y ys
+-- the frame before the next one is this one
+back : (k : ℕ) → (k + 1) - 1 ≡ k
+back k = omega arith
 
-pub pairs : List ℕ → List (List ℕ)
-pairs [] = []
-pairs (x ∷ xs) = pairs_from x xs
+pub changes_start : (L : ℕ) (values : List ℕ) → changes (map (lane L) values) ≡ 0 + changes_after (lane L (get_or values 0 0)) (map (lane L) (drop 1 values))
+changes_start L [] = refl
+changes_start L (v ∷ vs) = omega arith
 
--- the windows of two are these pairs
-windows_from : (x : ℕ) (ys : List ℕ) (s : Windows ℕ) → windows_rest s ≡ x ∷ ys → windows_size s ≡ 2 → AlwaysYields windows_steps (λ (w : Bor (List ℕ)). w.now) s (pairs_from x ys)
-unfolding pairs_from
-windows_from x [] s e two = λ w j p. absurd (omega (arith, p.1.0, ap length e))
-windows_from x (y ∷ ys) s e two =
-    (λ j p. absurd (omega (arith, p.1.0, ap length e)), λ w j p. (p.1.1 ∙ rw (e, two), windows_from y ys j (p.1.2 ∙ rw e) (p.0 ∙ two)))
+-- at frame k, with n changes before it
+module _ (L : ℕ) (values : List ℕ) (n k : ℕ) {w : ℕ} (h : w ≡ n + changes_after (lane L (get_or values (k - 1) 0)) (map (lane L) (drop k values))) where
+  -- whether the bit is another than the one before is a number to add
+  turn : k < length values → (bit : Bool) → not (beq (lane L (get_or values k 0)) (lane L (get_or values (k - 1) 0))) ≡ bit → {m : ℕ} → m ≡ n + bool_byte bit
+      → w ≡ m + changes_after (lane L (get_or values ((k + 1) - 1) 0)) (map (lane L) (drop (k + 1) values))
+  turn l true d q = h ∙ rw (back k, add-one k, drop-cons values k 0 l, not-true (beq (lane L (get_or values k 0)) (lane L (get_or values (k - 1) 0))) d) (omega arith)
+  turn l false d q = h ∙ rw (back k, add-one k, drop-cons values k 0 l, not-false (beq (lane L (get_or values k 0)) (lane L (get_or values (k - 1) 0))) d) (omega arith)
 
-pub windows_are : (xs : List ℕ) {s : Windows ℕ} → windows_rest s ≡ xs → windows_size s ≡ 2 → YieldsList windows_steps (λ (w : Bor (List ℕ)). w.now) s (pairs xs)
-unfolding pairs
-windows_are [] {s} e two = record { runs = λ w j p. absurd (omega (arith, p.1.0, ap length e)) }
-windows_are (x ∷ xs) {s} e two = record { runs = windows_from x xs s e two }
+  pub changes_turn : k < length values → {bit : Bool} → bit ≡ lane L (bit_xor (get_or values k 0) (get_or values (k - 1) 0)) → {m : ℕ} → m ≡ n + bool_byte bit
+      → w ≡ m + changes_after (lane L (get_or values ((k + 1) - 1) 0)) (map (lane L) (drop (k + 1) values))
+  changes_turn l {bit} e = turn l bit (sym (e ∙ xor_lane L (get_or values k 0) (get_or values (k - 1) 0)))
 
--- does the lane's bit differ from the one before?
-abbrev pub differs : ℕ → List ℕ → Bool
-differs L pair = not (beq (lane L (get_or pair 1 0)) (lane L (get_or pair 0 0)))
+  pub changes_end : length values ≤ k → n ≡ w
+  changes_end l = sym (h ∙ rw (drop_of_length-le values l, add-zero))
 
-kept : (same : Bool) (pair : List ℕ) (rest : List (List ℕ)) {n : ℕ} → length rest ≡ n → length (cond (not same) (pair ∷ rest) rest) ≡ cond same n (suc n)
-kept true pair rest e = e
-kept false pair rest e = ap suc e
-
-counted_from : (L x : ℕ) (ys : List ℕ) → length (filter (differs L) (pairs_from x ys)) ≡ changes_after (lane L x) (map (lane L) ys)
-unfolding pairs_from
-counted_from L x [] = refl
-counted_from L x (y ∷ ys) = kept (beq (lane L y) (lane L x)) (x ∷ y ∷ []) (filter (differs L) (pairs_from y ys)) (counted_from L y ys)
-
-pub counted : (L : ℕ) (xs : List ℕ) → length (filter (differs L) (pairs xs)) ≡ changes (map (lane L) xs)
-unfolding pairs
-counted L [] = refl
-counted L (x ∷ xs) = counted_from L x xs
+-- a bit adds 1 at most
+pub bit_most : (bit : Bool) → bool_byte bit ≤ 1
+bit_most true = omega arith
+bit_most false = omega arith

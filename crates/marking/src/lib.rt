@@ -35,8 +35,10 @@ pub fn mark(
 {
     // the list is walked first: so the areas are lent to be written once, for all questions and the run
     let needed = nets_needed(expectations);
-    run_asked(
+    match run_asked(
         task, limit, directory, times, inertial, fanins, values, words, needed,
-    )?;
-    Ok(first_unmet(directory, times, values, expectations))
+    ) {
+        Ok(()) => Ok(first_unmet(directory, times, values, expectations)),
+        Err(refusal) => Err(refusal),
+    }
 }

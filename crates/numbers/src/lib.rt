@@ -18,13 +18,15 @@ pub fn byte_at(bytes: &[u8], at: usize) -> u8
     bytes.get(at).copied().unwrap_or(0)
 }
 
-// The two-byte number at a place.
+// The two-byte number at a place. Where both bytes are there, which is nearly always, one test of the place shows it.
 #[tactic(auto, unfolding(crate::specs::Numbers::number_at))]
 pub fn number_at(bytes: &[u8], at: usize) -> u16
     ensures { result ≡ number_at bytes.now at }
 {
-    let rest = left(bytes, at);
-    u16::from_le_bytes([byte_at(rest, 0), byte_at(rest, 1)])
+    if bytes.len() < 2 || bytes.len() - 2 < at {
+        return u16::from(byte_at(bytes, at));
+    }
+    number_in(bytes, at)
 }
 
 // The same of bytes that are there, which is not tested.

@@ -16,7 +16,10 @@ pub fn store(area: &mut [Tick], at: usize, row: &[Tick])
         return;
     }
     let count = row.len().min(area.len() - at);
-    area[at..at + count].copy_from_slice(&row[..count]);
+    // No `copy_from_slice`: it would need `memmove`, which the archive for C asks nobody for, and most rows are short.
+    for k in 0..count {
+        area[at + k] = row[k];
+    }
 }
 
 // An entry of an area or a list; 0 beyond its end.

@@ -6,7 +6,7 @@
 mod input;
 mod output;
 
-pub use input::read_input;
+pub use input::{Unread, read_input};
 pub use output::{say, write_decimal, write_hex, write_output};
 use std::io::{Error, ErrorKind};
 use std::thread::yield_now;

@@ -1,7 +1,8 @@
 // What is read from the input.
-ghost use Rattle.std.specs.Prelude.{◌≤◌, length};
+ghost use Rattle.std.specs.Prelude.{◌≤◌};
 
 use std::io::{Eprint, Error, Input};
+use streams::Unread;
 
 // Why a run ends before its input does: a case is cut short, the buffers do not hold it, or it could not be read or its line not
 // be written, which standard error has said.
@@ -10,6 +11,12 @@ pub struct Cut;
 
 impl From<Error> for Cut {
     fn from(_error: Error) -> Cut {
+        Cut
+    }
+}
+
+impl From<Unread> for Cut {
+    fn from(_unread: Unread) -> Cut {
         Cut
     }
 }
@@ -63,22 +70,19 @@ impl FromBytes for u64 {
     }
 }
 
-// Fills the list, of 400 numbers at most, from the input.
-pub fn read_list<T: FromBytes>(rt: &(impl Input + Eprint), list: &mut [T]) -> Result<(), Cut>
-    requires { length list.old ≤ 400 }
-{
+// Fills the list from the input, as far as its first 400 numbers; those behind them are 0.
+pub fn read_list<T: FromBytes>(rt: &(impl Input + Eprint), list: &mut [T]) -> Result<(), Cut> {
     let mut bytes = [0; 3200];
-    let read = read_all(rt, &mut bytes[..T::width() * list.len()]);
-    fill_list(list, &bytes);
+    let wanted = T::width() * list.len().min(400);
+    let read = read_all(rt, &mut bytes[..wanted]);
+    fill_list(list, &bytes[..wanted]);
     read
 }
 
-// Fills the list, of 400 numbers at most, from the bytes; numbers behind their end are 0.
-pub fn fill_list<T: FromBytes>(list: &mut [T], bytes: &[u8])
-    requires { length list.old ≤ 400 }
-{
+// Fills the list from the bytes; numbers behind their end are 0.
+pub fn fill_list<T: FromBytes>(list: &mut [T], bytes: &[u8]) {
     let width = T::width();
     for (k, number) in list.iter_mut().enumerate() {
-        *number = T::at_byte(bytes, width * k);
+        *number = T::at_byte(bytes, width.saturating_mul(k));
     }
 }

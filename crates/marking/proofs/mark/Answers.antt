@@ -3,12 +3,12 @@ use mathlib.Core.Path.{refl}
 use Rattle.expectations.specs.Verdict.{on_paper}
 use Rattle.marking.proofs.Marked.{mark_no, mark_yes}
 use Rattle.marking.proofs.mark.Goals as goal
-use Rattle.method.proofs.Refused.{some_number, passed_on}
+use Rattle.method.proofs.Refused.{some_number}
 
-pub returns-in_err-run_asked : goal.returns-in_err-run_asked
+pub returns-in-Err : goal.returns-in-Err
 unfolding on_paper
-returns-in_err-run_asked c = rw (passed_on _ c.from_residual.ensures) (mark_no _ _ _ _ _ c.nets_needed-needed.ensures c.in_err-run_asked.ensures (some_number _))
+returns-in-Err c = mark_no _ _ _ _ _ c.nets_needed-needed.ensures c.in-Err.ensures (some_number _)
 
-pub returns : goal.returns
+pub returns-in-Ok : goal.returns-in-Ok
 unfolding on_paper
-returns c = mark_yes _ _ _ _ _ c.nets_needed-needed.ensures c.in_ok-run_asked.ensures refl c.first_unmet.ensures
+returns-in-Ok c = mark_yes _ _ _ _ _ c.nets_needed-needed.ensures c.in-Ok.ensures refl c.first_unmet.ensures

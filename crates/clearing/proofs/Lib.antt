@@ -1,0 +1,2 @@
+-- Laws that belong to no one function.
+pub mod Areas
