@@ -42,6 +42,12 @@ module _ (array : List ℕ) {n : ℕ} {array' : List ℕ} where
   given_verdict (Ok v) e f = rw (e, f)
   given_verdict (Err q) e f = rw (e, f)
 
+-- the same of a call that leaves areas, as one equation: so it needs no step of a proof named
+pub given_areas : {A S : Type 0} (own : A → List ℕ) (array : List ℕ) (r : Result A Refusal) (a : S) → outcome_in own array (outcome (on_paper r) a) ≡ numbered (numbers (first_of r) (given own r array)) a
+unfolding outcome_in in_numbers
+given_areas own array (Ok n) a = refl
+given_areas own array (Err q) a = refl
+
 level_number : (level : Bool) → bool_byte level ≡ cond level 1 0
 level_number true = refl
 level_number false = refl

@@ -147,6 +147,7 @@ pub fn mazh_count(times: &[Tick], values: &[u64], lane: u8, changes: &mut [u32; 
 }
 
 // From the former edition of the circuit file to the present one: the length of the file written.
+#[tactic(auto, using(answers::proofs::Given::given_areas))]
 pub fn mazh_newer(file: &[u8], area: &mut [u8], length: &mut [u32; 1]) -> u32
     ensures { numbered (numbers result length.new) area.new ≡ outcome_in one_number length.old (newer_of file.now area.old) }
 {

@@ -22,8 +22,9 @@ pub(crate) fn inertial_row(own: &[Tick], reach: Tick, inertial: &mut [u16], firs
     ensures { inertial.new ≡ sets inertial.old first (inertial_indices reach own.now) }
 {
     let mut later = 0;
-    for (k, t) in own.iter().enumerate() {
-        later = slices::first_above(own, later, *t + reach);
+    // Over the range, since a loop over the times themselves takes more jumps.
+    for k in 0..own.len() {
+        later = slices::first_above(own, later, own[k] + reach);
         inertial[first + k] = (later - (k + 1)) as u16;
     }
 }

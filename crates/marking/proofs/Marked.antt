@@ -7,11 +7,14 @@ use mathlib.Core.Bool.{Bool, true}
 use mathlib.Core.List.{List}
 use native.Mathlib.Omega.{arith}
 use lib.Dec.{leb}
-use Rattle.lists.specs.Ladder.{first_no, accepted, unless, refused}
+use Rattle.lists.specs.Ladder.{Answer, first_no, accepted, unless, refused}
 use Rattle.lists.specs.Outcome.{outcome}
 use Rattle.lists.proofs.Ladders.{unless_none, unless_some}
 use Rattle.lists.proofs.Leaving.{left_none, accepted_left}
 use Rattle.method.specs.WordLists.{WordLists, Lengths, lengths_of}
+use Rattle.method.specs.declared.Refusal.{Refusal}
+use Rattle.method.specs.Refusals.{number_of}
+use Rattle.method.proofs.Refused.{some_number}
 use Rattle.circuit.specs.Task.{Task, nets_in}
 use Rattle.circuit.proofs.Parts.{circuit_inputs, gates_length, few}
 use Rattle.engine.specs.Areas.{Areas, all_cleared}
@@ -107,3 +110,24 @@ module _ (task : Task) (limit : ℕ) (w : WordLists) (a : Areas) {b : Areas} (li
       left_is ∙ ap (λ (m : ℕ). run_left m task w a) z ∙ left_none (filled task w a) (all_cleared a) a in
       let found = searched_is task w (after_runs.after_run task w b (ran_filled task limit w a yes.1 here)) list yes.0 in
       ap₂ outcome (ap accepted (e ∙ found) ∙ sym (unless_none r (verdict task w list) z)) left_is ∙ sym (marks task limit w a list number_is)
+
+-- the same of both at once, by what `run_asked` answers and leaves
+module _ (task : Task) (limit : ℕ) (w : WordLists) (a : Areas) (list : List Expectation) where
+  abbrev ran_asked : Asked
+  ran_asked = asked_of task limit w a (leb (nets_needed list) (nets_in task))
+
+  abbrev found_in : Areas → Verdict
+  found_in b = searched b.plan.directory b.plan.times b.values list
+
+  pub mark_by : mark_of task limit w a list ≡ outcome (unless ran_asked.number (found_in ran_asked.left)) ran_asked.left
+  mark_by = go ran_asked.number refl
+    where
+      go : (n : ℕ) → ran_asked.number ≡ n → mark_of task limit w a list ≡ outcome (unless ran_asked.number (found_in ran_asked.left)) ran_asked.left
+      go zero z = sym (ap (λ (r : Answer Verdict). outcome r ran_asked.left) (unless_none ran_asked.number (found_in ran_asked.left) z) ∙ mark_yes task limit w a list refl refl z refl)
+      go (suc n) z = sym (ap (λ (r : Answer Verdict). outcome r ran_asked.left) (unless_some ran_asked.number (found_in ran_asked.left) (λ e. omega (arith, e, z))) ∙ mark_no task limit w a list refl refl (λ e. omega (arith, e, z)))
+
+pub unless_accepted : (v : Verdict) → unless 0 v ≡ accepted v
+unless_accepted v = unless_none 0 v refl
+
+pub unless_refused : (q : Refusal) (v : Verdict) → unless (number_of q) v ≡ refused (number_of q)
+unless_refused q v = unless_some (number_of q) v (some_number q)

@@ -20,6 +20,7 @@ use method::{Tick, Words};
 
 // Runs the circuit of the file as Run does, and marks the run: questions 1 to 11, then 20, 12, 13 and 22. The areas are
 // left as Run leaves them, whatever the verdict.
+#[tactic(auto, using(crate::proofs::Marked::mark_by, crate::proofs::Marked::unless_accepted, crate::proofs::Marked::unless_refused), unfolding(expectations::specs::Verdict::on_paper))]
 pub fn mark(
     task: Task,
     limit: u16,
@@ -35,10 +36,8 @@ pub fn mark(
 {
     // the list is walked first: so the areas are lent to be written once, for all questions and the run
     let needed = nets_needed(expectations);
-    match run_asked(
+    run_asked(
         task, limit, directory, times, inertial, fanins, values, words, needed,
-    ) {
-        Ok(()) => Ok(first_unmet(directory, times, values, expectations)),
-        Err(refusal) => Err(refusal),
-    }
+    )?;
+    Ok(first_unmet(directory, times, values, expectations))
 }

@@ -6,4 +6,4 @@ use Rattle.lists.specs.Front.{leading}
 use Rattle.slices.proofs.first_above.Given as goal
 
 abbrev pub invariant-loop-k : goal.invariant-loop-k
-invariant-loop-k l = l.from + leading l.limit (drop l.from l.row) ≡ l.k + leading l.limit (drop l.k l.row)
+invariant-loop-k l = (l.place ≡ l.k) × (l.from + leading l.limit (drop l.from l.row) ≡ l.k + leading l.limit (drop l.k l.row))
